@@ -1,0 +1,179 @@
+-- W1 to W12 as one table of questions and answers under one statement, which antt computes from the definitions.
+-- Assumes nothing.
+use Prim.Native.Nat.{ℕ, _+_, _*_, _/_, _%_, _^_}
+use mathlib.Core.Path.{_≡_, refl}
+use mathlib.Core.List.{List, [], _∷_, _++_, map}
+use lib.ListN.{replicate}
+use Rattle.profile.specs.Lists.{all, chunks, sum, lastStart}
+use Rattle.profile.specs.Bytes.{twoBytes, threeBytes}
+use Rattle.profile.specs.Values.{emptyField, emptyTables}
+use Rattle.profile.specs.Patterns.{patternOf, toggleFault, highestUsed}
+use Rattle.profile.specs.Geometry.{endLine, regionOf, lengthIn, lineLength, regionPixels, pixelsBefore, pixelCount, hasPixel}
+use Rattle.profile.specs.Ranges.{sequenceIn, regionIn, fieldIn, gateIn, subckIn, shutterIn, inRange}
+use Rattle.profile.specs.Rules.{
+  firstBroken,
+  startsRight,
+  togglesRight,
+  pairsRight,
+  maskRight,
+  countsRight,
+  endsRight,
+  secondRight,
+  gateRight,
+  subckRight,
+  shutterRight,
+  regionEntries,
+  lineEntries,
+  rulesOf,
+  judge,
+  checkProfile,
+}
+use Rattle.profile.specs.Script.{
+  registerFits,
+  sequenceFits,
+  fieldFrom,
+  fieldFits,
+  gateFits,
+  subckFits,
+  shutterFits,
+  allowed,
+  fits,
+  put,
+  step,
+  records,
+  readScript,
+}
+use Rattle.profile.specs.declared.Profile.{Profile}
+use Rattle.profile.specs.declared.Verdict.{Verdict}
+use Rattle.level.specs.Line.{lineWith, noLine, lineOf}
+use Rattle.level.specs.Word.{vWord, gateWord, wordOf}
+use Rattle.level.specs.Fieldwords.{lineWords, fieldWords}
+use Rattle.level.specs.Place.{levelAnswer}
+use Rattle.holdlist.specs.Runs.{flush, pushed, shut, opened, closed, runs}
+use Rattle.holdlist.specs.Compile.{roomOf, compileVerdict, compileAnswer, compileCounts, compileWords}
+
+-- ---- what can be asked of a script
+
+pub data Question : Type 0 where
+  -- number and place of the read
+  read : Question
+  -- the words of all the field's pixels
+  words : Question
+  -- the levels of output bit k at all the field's pixels
+  output : ℕ → Question
+  -- the level asked at a line and pixel: number, place, word
+  level : ℕ → ℕ → Question
+  -- compiled into lent lists: number, place, steps, pixels; counts and words as they are left
+  compile : List ℕ → List ℕ → Question
+
+abbrev verdict : Verdict → List ℕ
+verdict v = v .number ∷ v .place ∷ []
+
+abbrev profileOf : List ℕ → Profile
+profileOf s = readScript s .profile
+
+pub ask : List ℕ → Question → List (List ℕ)
+ask s read = verdict (readScript s .verdict) ∷ []
+ask s words = fieldWords (profileOf s .tables) (profileOf s .field) ∷ []
+ask s (output k) = map (λ (w : ℕ). w / 2 ^ k % 2) (fieldWords (profileOf s .tables) (profileOf s .field)) ∷ []
+ask s (level line pixel) =
+    (verdict (levelAnswer (profileOf s) line pixel .verdict) ++ (levelAnswer (profileOf s) line pixel .word ∷ [])) ∷ []
+ask s (compile cs ws) =
+    (verdict (compileAnswer (profileOf s) (roomOf cs ws) .verdict)
+    ++ (compileAnswer (profileOf s) (roomOf cs ws) .steps ∷ compileAnswer (profileOf s) (roomOf cs ws) .pixels ∷ []))
+    ∷ compileCounts (profileOf s) (roomOf cs ws) cs
+    ∷ compileWords (profileOf s) (roomOf cs ws) ws
+    ∷ []
+
+-- ---- the scripts
+
+abbrev register : ℕ → ℕ → List ℕ
+register a v = 0x04 ∷ 0x00 ∷ 0x01 ∷ 0x00 ∷ a ∷ threeBytes v
+
+-- words 2 to 9 of pattern 0: no toggle but V1's first two is used
+abbrev unused : List ℕ
+unused =
+    register 2 0xFFFFFF ++ register 3 0xFFFFFF ++ register 4 0xFFFFFF ++ register 5 0xFFFFFF ++ register 6 0xFFFFFF
+    ++ register 7 0xFFFFFF ++ register 8 0xFFFFFF ++ register 9 0xFFFFFF
+
+-- pattern 0's word 0 and word 1
+abbrev pattern : ℕ → ℕ → List ℕ
+pattern word0 word1 = register 0 word0 ++ register 1 word1
+
+-- pattern 0's freeze 1 and resume 1
+abbrev pair : ℕ → ℕ → List ℕ
+pair freeze resume = register 10 (freeze + 4096 * resume)
+
+-- sequence 0 over pattern 0: line length 10; start, repetitions on odd and on even lines, mask
+abbrev sequence : ℕ → ℕ → ℕ → ℕ → List ℕ
+sequence start odd even mask = twoBytes (14 ∷ 2 ∷ 0 ∷ 0 ∷ 10 ∷ start ∷ odd ∷ even ∷ mask ∷ [])
+
+-- a field of one region, of so many lines, in a mode; the last line has length 10 too, gate line 0, no second pattern
+abbrev field : ℕ → ℕ → List ℕ
+field lines mode = twoBytes (16 ∷ 3 ∷ lines ∷ 10 ∷ 0 ∷ 65535 ∷ 1 ∷ 0 ∷ 0 ∷ mode ∷ [])
+
+-- base profile A, and A with a freeze and resume pair under mask 1
+abbrev a : List ℕ
+a = pattern 0x004001 0x003001 ++ unused ++ sequence 2 1 2 0 ++ field 2 0
+
+abbrev masked : ℕ → ℕ → List ℕ
+masked freeze resume = pattern 0x004001 0x003001 ++ unused ++ pair freeze resume ++ sequence 2 1 2 1 ++ field 2 0
+
+abbrev sweep : ℕ → List ℕ
+sweep times = pattern 0x004001 0x003001 ++ unused ++ sequence 2 times times 0 ++ field 3 1
+
+abbrev multiplier : ℕ → List ℕ
+multiplier times = pattern 0x004000 0x005002 ++ unused ++ sequence 1 times times 0 ++ field 3 2
+
+-- the bytes of A's sequence and field as document 01 prints them
+pub as-printed :
+    (sequence 2 1 2 0 ++ field 2 0)
+    ≡ 0x0E ∷ 0x00 ∷ 0x02 ∷ 0x00 ∷ 0x00 ∷ 0x00 ∷ 0x00 ∷ 0x00 ∷ 0x0A ∷ 0x00 ∷ 0x02 ∷ 0x00 ∷ 0x01 ∷ 0x00 ∷ 0x02 ∷ 0x00 ∷ 0x00 ∷ 0x00
+    ∷ 0x10 ∷ 0x00 ∷ 0x03 ∷ 0x00 ∷ 0x02 ∷ 0x00 ∷ 0x0A ∷ 0x00 ∷ 0x00 ∷ 0x00 ∷ 0xFF ∷ 0xFF ∷ 0x01 ∷ 0x00 ∷ 0x00 ∷ 0x00 ∷ 0x00 ∷ 0x00
+    ∷ 0x00 ∷ 0x00 ∷ []
+as-printed = refl
+
+-- ---- the table
+
+pub record Case : Type 0 where
+  pub script : List ℕ
+  pub question : Question
+  pub answer : List (List ℕ)
+
+abbrev case : List ℕ → Question → List (List ℕ) → Case
+case s q r = record { script = s; question = q; answer = r }
+
+pub table : List Case
+table =
+    -- W1
+    case a (compile (replicate 8 9) (replicate 8 9))
+    ((0 ∷ 0 ∷ 7 ∷ 20 ∷ [])
+    ∷ (3 ∷ 2 ∷ 8 ∷ 2 ∷ 2 ∷ 2 ∷ 1 ∷ 9 ∷ [])
+    ∷ (0x0FC1 ∷ 0x0FC0 ∷ 0x0FC1 ∷ 0x0FC0 ∷ 0x0FC1 ∷ 0x0FC0 ∷ 0x0FC1 ∷ 9 ∷ []) ∷ [])
+    ∷ case a words
+    ((replicate 3 0x0FC1 ++ replicate 2 0x0FC0 ++ replicate 8 0x0FC1 ++ replicate 2 0x0FC0 ++ replicate 2 0x0FC1 ++ replicate 2 0x0FC0 ++ replicate 1 0x0FC1) ∷ [])
+    -- W2, W3, W4
+    ∷ case (pattern 0x004001 0x003001 ++ sequence 2 1 2 0 ++ field 2 0) read ((10 ∷ 0 ∷ []) ∷ [])
+    ∷ case [] read ((6 ∷ 0 ∷ []) ∷ [])
+    ∷ case (0x04 ∷ 0x00 ∷ 0x01 ∷ []) read ((2 ∷ 0 ∷ []) ∷ [])
+    -- W5: line 0 is 1110001111
+    ∷ case (masked 3 6) (output 0)
+    ((1 ∷ 1 ∷ 1 ∷ 0 ∷ 0 ∷ 0 ∷ 1 ∷ 1 ∷ 1 ∷ 1 ∷ 1 ∷ 1 ∷ 1 ∷ 0 ∷ 0 ∷ 0 ∷ 1 ∷ 0 ∷ 0 ∷ 1 ∷ []) ∷ [])
+    -- W6
+    ∷ case (masked 3 3) read ((11 ∷ 0 ∷ []) ∷ [])
+    -- W7, W8
+    ∷ case (sweep 7) read ((0 ∷ 0 ∷ []) ∷ [])
+    ∷ case (sweep 8) read ((13 ∷ 0 ∷ []) ∷ [])
+    -- W9: high at field pixels 9 to 20
+    ∷ case (multiplier 5) (output 0) ((replicate 9 0 ++ replicate 12 1 ++ replicate 9 0) ∷ [])
+    -- W10
+    ∷ case (multiplier 4) read ((12 ∷ 0 ∷ []) ∷ [])
+    -- W11
+    ∷ case a (compile (replicate 6 9) (replicate 8 9)) ((18 ∷ 7 ∷ 0 ∷ 0 ∷ []) ∷ replicate 6 9 ∷ replicate 8 9 ∷ [])
+    -- W12
+    ∷ case a (level 1 10) ((19 ∷ 0 ∷ 0 ∷ []) ∷ [])
+    ∷ []
+
+pub cases : map (λ (c : Case). ask (c .script) (c .question)) table ≡ map (λ (c : Case). c .answer) table
+unfolding ask table all chunks sum lastStart emptyField emptyTables patternOf toggleFault highestUsed endLine regionOf lengthIn lineLength regionPixels pixelsBefore pixelCount hasPixel sequenceIn regionIn fieldIn gateIn subckIn shutterIn inRange firstBroken startsRight togglesRight pairsRight maskRight countsRight endsRight secondRight gateRight subckRight shutterRight regionEntries lineEntries rulesOf judge checkProfile registerFits sequenceFits fieldFrom fieldFits gateFits subckFits shutterFits allowed fits put step records readScript lineWith noLine lineOf vWord gateWord wordOf lineWords fieldWords levelAnswer flush pushed shut opened closed runs compileVerdict compileAnswer compileCounts compileWords
+cases = refl

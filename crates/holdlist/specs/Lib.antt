@@ -1,0 +1,4 @@
+pub mod Play
+pub mod Runs
+pub mod Compile
+pub mod Demand

@@ -1,0 +1,19 @@
+// Hold lists: u32 counts beside u16 words. A field is compiled into the shortest list that plays it.
+use profile::Verdict;
+
+// A word held for a number of positions.
+pub struct Step {
+    pub count: u32,
+    pub word: u16,
+}
+
+pub struct Played {
+    pub verdict: Verdict,
+    pub word: u16,
+}
+
+pub struct Compiled {
+    pub verdict: Verdict,
+    pub steps: usize,
+    pub pixels: u64,
+}

@@ -1,0 +1,4 @@
+pub mod Line
+pub mod Word
+pub mod Fieldwords
+pub mod Place

@@ -1,0 +1,132 @@
+-- Where everything acts on one line of a field, worked out from the tables, the field and the line's number.
+-- Assumes nothing.
+use Prim.Native.Nat.{ℕ, _+_}
+use mathlib.Core.List.{List, [], _∷_, map}
+use mathlib.Core.Bool.{Bool, true, false, cond, not, _&&_, _||_}
+use lib.ListN.{getD, replicate}
+use lib.Dec.{ltb, leb, eqb}
+use Rattle.profile.specs.Values.{emptyGate, emptyShutter}
+use Rattle.profile.specs.Patterns.{patternOf}
+use Rattle.profile.specs.Geometry.{regionAt, regionOf, sequenceOf, lengthIn, regionPixels, repetitions, gateLines}
+use Rattle.profile.specs.Rules.{pairOn, hasSecond, secondOf, gateOn}
+use Rattle.profile.specs.declared.Mode.the-variants.{Plain}
+use Rattle.profile.specs.declared.Pattern.{Pattern}
+use Rattle.profile.specs.declared.Region.{Region}
+use Rattle.profile.specs.declared.Sequence.{Sequence}
+use Rattle.profile.specs.declared.Gate.{Gate}
+use Rattle.profile.specs.declared.Subck.{Subck}
+use Rattle.profile.specs.declared.Shutter.{Shutter}
+use Rattle.profile.specs.declared.Tables.{Tables}
+use Rattle.profile.specs.declared.Field.{Field}
+use Rattle.level.specs.declared.Mask.{Mask}
+use Rattle.level.specs.declared.Pulse.{Pulse}
+use Rattle.level.specs.declared.Span.{Span}
+use Rattle.level.specs.declared.Line.{Line}
+
+-- one of a list's numbers
+abbrev pub among : ℕ → List ℕ → Bool
+among x [] = false
+among x (y ∷ ys) = eqb x y || among x ys
+
+-- "VSG: on the gate line, if on, .. else the start level. Absent: 1."
+abbrev pub gateHere : Gate → Bool → Pulse
+gateHere g here =
+    cond (g .present)
+    (record { acts = gateOn g && here; level = g .level; toggle1 = g .toggle1; toggle2 = g .toggle2 })
+    (record { acts = false; level = 1; toggle1 = 0; toggle2 = 0 })
+
+-- "SUBCK: with suppression s and count c, flips the same way on lines from gate line + s to below gate line + s + c, inside the field;
+-- else its start level. Absent: 1."
+abbrev pub subckHere : Subck → ℕ → ℕ → Pulse
+subckHere s gate line =
+    cond (s .present)
+    (record {
+      acts = leb (gate + s .suppressed) line && ltb line (gate + s .suppressed + s .count);
+      level = s .level;
+      toggle1 = s .toggle1;
+      toggle2 = s .toggle2;
+    })
+    (record { acts = false; level = 1; toggle1 = 0; toggle2 = 0 })
+
+-- "Shutters: active from on, up to but not including off; else the opposite. Absent: 0." Of a line of the given length: before the line
+-- of on, and after that of off, at no pixel; on the line of on, from its pixel; on the line of off, up to its pixel; between, at all.
+abbrev pub opensAt : Shutter → ℕ → ℕ
+opensAt s line = cond (eqb line (s .«on_line»)) (s .«on_pixel») 0
+
+abbrev pub closesAt : Shutter → ℕ → ℕ → ℕ
+closesAt s line length = cond (eqb line (s .«off_line»)) (s .«off_pixel») length
+
+abbrev pub shutterHere : Shutter → ℕ → ℕ → Span
+shutterHere s line length =
+    cond (s .present)
+    (cond (leb (s .«on_line») line && leb line (s .«off_line»))
+    (record { level = s .active; from = opensAt s line; to = closesAt s line length })
+    (record { level = s .active; from = 0; to = 0 }))
+    (record { level = 1; from = 0; to = 0 })
+
+abbrev pub emptyPattern : Pattern
+emptyPattern =
+    record {
+      levels = 0;
+      length = 0;
+      toggles = replicate 18 0;
+      freeze1 = 0;
+      resume1 = 0;
+      freeze2 = 0;
+      resume2 = 0;
+    }
+
+-- the line of region r, whose number is i, with sequence s and that sequence's pattern a
+unfoldable pub lineWith : Tables → Field → ℕ → ℕ → Region → Sequence → Pattern → Line
+lineWith t f line i r s a =
+    record {
+      length = lengthIn t f i line;
+      mode = r .mode;
+      pattern = a;
+      start = s .start;
+      origin = regionPixels t f i line;
+      repetitions = repetitions s line;
+      mask1 = record { on = pairOn (s .mask) 1; freeze = a .freeze1; resume = a .resume1 };
+      mask2 = record { on = pairOn (s .mask) 2; freeze = a .freeze2; resume = a .resume2 };
+      double = hasSecond f && among line (gateLines f);
+      second = secondOf t f;
+      gates =
+          gateHere (getD (t .gates) 0 emptyGate) (among line (gateLines f))
+          ∷ gateHere (getD (t .gates) 1 emptyGate) (among line (gateLines f))
+          ∷ gateHere (getD (t .gates) 2 emptyGate) (among line (gateLines f))
+          ∷ gateHere (getD (t .gates) 3 emptyGate) (among line (gateLines f))
+          ∷ gateHere (getD (t .gates) 4 emptyGate) (among line (gateLines f))
+          ∷ [];
+      subck = subckHere (t .subck) (getD (gateLines f) 0 0) line;
+      mshut = shutterHere (getD (t .shutters) 0 emptyShutter) line (lengthIn t f i line);
+      strobe = shutterHere (getD (t .shutters) 1 emptyShutter) line (lengthIn t f i line);
+    }
+
+-- the line in its region i
+abbrev pub lineIn : Tables → Field → ℕ → ℕ → Line
+lineIn t f line i =
+    lineWith t f line i (regionAt f i) (sequenceOf t (regionAt f i .sequence))
+    (patternOf (t .registers) (sequenceOf t (regionAt f i .sequence) .pattern))
+
+-- of a line that the field does not have: nothing acts
+unfoldable pub noLine : Line
+noLine =
+    record {
+      length = 0;
+      mode = Plain;
+      pattern = emptyPattern;
+      start = 0;
+      origin = 0;
+      repetitions = 0;
+      mask1 = record { on = false; freeze = 0; resume = 0 };
+      mask2 = record { on = false; freeze = 0; resume = 0 };
+      double = false;
+      second = emptyPattern;
+      gates = replicate 5 (record { acts = false; level = 0; toggle1 = 0; toggle2 = 0 });
+      subck = record { acts = false; level = 0; toggle1 = 0; toggle2 = 0 };
+      mshut = record { level = 0; from = 0; to = 0 };
+      strobe = record { level = 0; from = 0; to = 0 };
+    }
+
+unfoldable pub lineOf : Tables → Field → ℕ → Line
+lineOf t f line = cond (ltb line (f .lines)) (lineIn t f line (regionOf f line)) noLine

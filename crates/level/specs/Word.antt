@@ -1,0 +1,114 @@
+-- The word of 14 output levels at a pixel of a line, output by output.
+-- Assumes nothing.
+use Prim.Native.Nat.{ℕ, _+_, _-_, _*_, _/_, _%_, _^_}
+use mathlib.Core.List.{List, [], _∷_}
+use mathlib.Core.Bool.{Bool, true, false, cond, _&&_}
+use lib.ListN.{getD}
+use lib.Dec.{ltb, leb}
+use Rattle.profile.specs.Patterns.{rowOf, used}
+use Rattle.profile.specs.declared.Mode.{Mode}
+use Rattle.profile.specs.declared.Mode.the-variants.{Plain, Sweep, Multiplier}
+use Rattle.profile.specs.declared.Pattern.{Pattern}
+use Rattle.level.specs.declared.Mask.{Mask}
+use Rattle.level.specs.declared.Pulse.{Pulse}
+use Rattle.level.specs.declared.Span.{Span}
+use Rattle.level.specs.declared.Line.{Line}
+
+abbrev pub bit : Bool → ℕ
+bit true = 1
+bit false = 0
+
+-- a level flipped n times
+abbrev pub flipped : ℕ → ℕ → ℕ
+flipped level n = (level + n) % 2
+
+-- from ≤ p < to
+abbrev pub within : ℕ → ℕ → ℕ → Bool
+within from to p = leb from p && ltb p to
+
+-- The toggle count, for all six outputs and the second pattern: how many used toggles of a row have toggle × scale at or below t.
+abbrev pub flips : Mode → ℕ → ℕ → List ℕ → ℕ → ℕ
+flips m length scale row t =
+    bit (used m length (getD row 0 0) && leb (getD row 0 0 * scale) t)
+    + bit (used m length (getD row 1 0) && leb (getD row 1 0 * scale) t)
+    + bit (used m length (getD row 2 0) && leb (getD row 2 0 * scale) t)
+
+-- the start level of output k
+abbrev pub startLevel : Pattern → ℕ → ℕ
+startLevel a k = a .levels / 2 ^ k % 2
+
+-- "t = pixel − start. Before start the level is the start level. .. While t < r × length, the level is the start level flipped once for
+-- each used toggle at or below t mod length: each repetition starts afresh. After that it is the start level."
+abbrev pub runLevel : Pattern → ℕ → ℕ → ℕ → ℕ → ℕ
+runLevel a start r k q =
+    cond (ltb q start) (startLevel a k)
+    (cond (ltb (q - start) (r * a .length))
+    (flipped (startLevel a k) (flips Plain (a .length) 1 (rowOf a k) ((q - start) % a .length)))
+    (startLevel a k))
+
+-- "Multiplier: t likewise; one flip for each used toggle with toggle × length at or below t, and no return afterwards."
+abbrev pub timesLevel : Pattern → ℕ → ℕ → ℕ → ℕ
+timesLevel a start k q =
+    cond (ltb q start) (startLevel a k)
+    (flipped (startLevel a k) (flips Multiplier (a .length) (a .length) (rowOf a k) (q - start)))
+
+-- the first pattern by mode; "Sweep: the same with t counted from the region's first pixel, through line ends."
+abbrev pub firstLevel : Mode → Pattern → ℕ → ℕ → ℕ → ℕ → ℕ → ℕ
+firstLevel Plain a start origin r k p = runLevel a start r k p
+firstLevel Sweep a start origin r k p = runLevel a start r k (origin + p)
+firstLevel Multiplier a start origin r k p = timesLevel a start k (origin + p)
+
+-- "Second pattern: .. from the pixel equal to its length, its start level flipped for each used toggle at or below pixel − length."
+abbrev pub secondLevel : Pattern → ℕ → ℕ → ℕ
+secondLevel a k p = flipped (startLevel a k) (flips Multiplier (a .length) 1 (rowOf a k) (p - a .length))
+
+abbrev pub unmasked : Line → ℕ → ℕ → ℕ
+unmasked l k p =
+    cond (l .double && leb (l .second .length) p)
+    (secondLevel (l .second) k p)
+    (firstLevel (l .mode) (l .pattern) (l .start) (l .origin) (l .repetitions) k p)
+
+-- "Mask, last: in freeze ≤ pixel < resume, the level that the unmasked rules give at pixel freeze."
+abbrev pub frozen : Mask → ℕ → Bool
+frozen m p = m .on && within (m .freeze) (m .resume) p
+
+-- the pixel whose unmasked levels show
+abbrev pub shownAt : Mask → Mask → ℕ → ℕ
+shownAt a b p = cond (frozen a p) (a .freeze) (cond (frozen b p) (b .freeze) p)
+
+abbrev pub vLevel : Line → ℕ → ℕ → ℕ
+vLevel l k p = unmasked l k (shownAt (l .mask1) (l .mask2) p)
+
+-- gates and SUBCK: "the start level flipped for each toggle at or below the pixel; else the start level"
+abbrev pub pulseLevel : Pulse → ℕ → ℕ
+pulseLevel g p = flipped (g .level) (cond (g .acts) (bit (leb (g .toggle1) p) + bit (leb (g .toggle2) p)) 0)
+
+abbrev pub noPulse : Pulse
+noPulse = record { acts = false; level = 0; toggle1 = 0; toggle2 = 0 }
+
+abbrev pub gateLevel : List Pulse → ℕ → ℕ → ℕ
+gateLevel gates k p = pulseLevel (getD gates k noPulse) p
+
+-- shutters: the active level, "else the opposite"
+abbrev pub spanLevel : Span → ℕ → ℕ
+spanLevel s p = flipped (s .level) (cond (within (s .from) (s .to) p) 0 1)
+
+-- six levels as bits 0 to 5, five as bits 0 to 4
+abbrev pub six : (ℕ → ℕ) → ℕ
+six f = f 0 + f 1 * 2 + f 2 * 4 + f 3 * 8 + f 4 * 16 + f 5 * 32
+
+abbrev pub five : (ℕ → ℕ) → ℕ
+five f = f 0 + f 1 * 2 + f 2 * 4 + f 3 * 8 + f 4 * 16
+
+-- V1..V6 and VSG1..VSG5
+unfoldable pub vWord : Line → ℕ → ℕ
+vWord l p = six (λ k. vLevel l k p)
+
+unfoldable pub gateWord : List Pulse → ℕ → ℕ
+gateWord gates p = five (λ k. gateLevel gates k p)
+
+-- "Bits 0..5 V1..V6, 6..10 VSG1..VSG5, 11 SUBCK, 12 MSHUT, 13 STROBE, 14 and 15 zero."
+unfoldable pub wordOf : Line → ℕ → ℕ
+wordOf l p =
+    vWord l p + gateWord (l .gates) p * 64 + pulseLevel (l .subck) p * 2048 + spanLevel (l .mshut) p * 4096
+    + spanLevel (l .strobe) p * 8192

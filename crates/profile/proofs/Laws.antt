@@ -1,0 +1,251 @@
+-- Laws that are cited everywhere: choices by tests, `all`, `chunks`, `sum`, `lastStart` and `over`, each over any index, number or list.
+-- Assumes nothing.
+use mathlib.Core.Path.{_≡_, refl, sym, ap, _∙_}
+use mathlib.Core.Bool.{Bool, true, false, cond, not, _&&_, _||_, false≢true}
+use mathlib.Core.Logic.{_⊎_, inl, inr}
+use mathlib.Core.List.{List, [], _∷_, _++_, append-assoc, append-nil}
+use Prim.Native.Nat.{ℕ, zero, suc, _+_, _*_, _-_, _≤_, _<_, zero-le}
+use native.Mathlib.Nat.{add-zero, zero-add, add-suc, suc-add, add-assoc, zero-mul, suc-mul, le-refl}
+use native.Mathlib.Numerals.{add-one}
+use native.Mathlib.Omega.{arith}
+use borrow.Author.Tests.{leb-true, leb-false, le-leb, lt-leb, eqb-true, eqb-false}
+use lib.ListN.{length, getD, drop, length-append, List·getD-append, List·getD-eq-default}
+use lib.Seq.{getD-append-add, drop-at}
+use lib.Dec.{leb, ltb, eqb}
+use Rattle.profile.specs.Lists.{all, chunks, sum, lastStart, over}
+
+-- ---- choices by a test
+
+-- a claim of a choice, by its two cases
+pub cond-case : {A : Type 0} (P : A → Type 0) (b : Bool) (x y : A) → (b ≡ true → P x) → (b ≡ false → P y) → P (cond b x y)
+cond-case P true x y f g = f refl
+cond-case P false x y f g = g refl
+
+-- both branches are told apart by what is known in them
+pub by-cases {ℓ} : {P : Type ℓ} (b : Bool) → (b ≡ true → P) → (b ≡ false → P) → P
+by-cases true f g = f refl
+by-cases false f g = g refl
+
+pub and-left : (a b : Bool) → a && b ≡ true → a ≡ true
+and-left true b e = refl
+and-left false b e = e
+
+pub and-right : (a b : Bool) → a && b ≡ true → b ≡ true
+and-right true b e = e
+and-right false b e = absurd (false≢true e)
+
+pub and-intro : {a b : Bool} → a ≡ true → b ≡ true → a && b ≡ true
+and-intro p q = rw (p, q)
+
+-- `not a || b` is "where a, b"
+pub where-true : (a b : Bool) → not a || b ≡ true → a ≡ true → b ≡ true
+where-true true b e h = e
+where-true false b e h = absurd (false≢true h)
+
+pub where-intro : (a b : Bool) → (a ≡ true → b ≡ true) → not a || b ≡ true
+where-intro true b f = f refl
+where-intro false b f = refl
+
+pub or-cases : (a b : Bool) → a || b ≡ true → (a ≡ true) ⊎ (b ≡ true)
+or-cases true b e = inl refl
+or-cases false b e = inr e
+
+pub or-left : (a b : Bool) → a ≡ true → a || b ≡ true
+or-left a b e = rw e
+
+pub or-right : (a b : Bool) → b ≡ true → a || b ≡ true
+or-right true b e = refl
+or-right false b e = e
+
+-- ---- all tests of a list
+
+-- that every test of a list passes, as a product of equations
+abbrev pub Passed : List Bool → Type 0
+Passed [] = Unit {0}
+Passed (b ∷ bs) = (b ≡ true) × Passed bs
+
+pub all-passed : (l : List Bool) → Passed l → all l ≡ true
+unfolding all
+all-passed [] w = refl
+all-passed (b ∷ bs) w = rw (w .0, all-passed bs (w .1))
+
+pub passed : (l : List Bool) → all l ≡ true → Passed l
+unfolding all
+passed [] e = tt
+passed (true ∷ bs) e = (refl, passed bs e)
+passed (false ∷ bs) e = absurd (false≢true e)
+
+pub all-one : (b : Bool) → all (b ∷ []) ≡ b
+unfolding all
+all-one true = refl
+all-one false = refl
+
+pub all-append : (a b : List Bool) → all (a ++ b) ≡ all a && all b
+unfolding all
+all-append [] b = refl
+all-append (true ∷ a) b = all-append a b
+all-append (false ∷ a) b = refl
+
+-- ---- chunks
+
+pub chunks-none : {A : Type 0} (f : ℕ → List A) → chunks 0 f ≡ []
+unfolding chunks
+chunks-none f = refl
+
+pub chunks-more : {A : Type 0} (n : ℕ) (f : ℕ → List A) → chunks (n + 1) f ≡ chunks n f ++ f n
+unfolding chunks
+chunks-more n f = rw add-one
+
+-- what holds of each chunk holds of all: chunks that agree are the same
+pub chunks-ext : {A : Type 0} (n : ℕ) (f g : ℕ → List A) → ((i : ℕ) → i < n → f i ≡ g i) → chunks n f ≡ chunks n g
+unfolding chunks
+chunks-ext zero f g e = refl
+chunks-ext (suc n) f g e = rw (chunks-ext n f g (λ i h. e i (omega arith)), e n (omega arith))
+
+-- in two parts
+pub chunks-add : {A : Type 0} (n m : ℕ) (f : ℕ → List A) → chunks (n + m) f ≡ chunks n f ++ chunks m (λ i. f (n + i))
+unfolding chunks
+chunks-add n zero f = rw (add-zero, append-nil)
+chunks-add n (suc m) f = rw (add-suc, chunks, chunks-add n m f, append-assoc)
+
+-- chunks of one length, of at most one
+pub length-chunks : {A : Type 0} (m n : ℕ) (f : ℕ → List A) → ((i : ℕ) → length (f i) ≡ m) → length (chunks n f) ≡ n * m
+unfolding chunks
+length-chunks m zero f h = sym (zero-mul m)
+length-chunks m (suc n) f h = rw length-append (rw (h n, length-chunks m n f h, suc-mul))
+
+pub length-chunks-le : {A : Type 0} (m n : ℕ) (f : ℕ → List A) → ((i : ℕ) → length (f i) ≤ m) → length (chunks n f) ≤ n * m
+unfolding chunks
+length-chunks-le m zero f h = zero-le
+length-chunks-le m (suc n) f h = rw (length-append, suc-mul) (omega (arith, h n, length-chunks-le m n f h))
+
+-- fewer chunks are not longer, and what is left of the room for all is room for the next
+pub chunks-below : {A : Type 0} (n m : ℕ) (f : ℕ → List A) → n ≤ m → length (chunks n f) ≤ length (chunks m f)
+chunks-below n m f h =
+    let e : n + (m - n) ≡ m = omega arith in
+    omega (arith, ap (λ (k : ℕ). length (chunks k f)) e, ap length (chunks-add n (m - n) f), length-append (chunks n f) (chunks (m - n) (λ i. f (n + i))))
+
+pub chunk-room : {A : Type 0} (k n : ℕ) (f : ℕ → List A) → k < n → length (chunks k f) + length (f k) ≤ length (chunks n f)
+chunk-room k n f h =
+    omega (arith, ap length (chunks-more k f), length-append (chunks k f) (f k), chunks-below (k + 1) n f (omega arith))
+
+-- the chunks' lengths add up
+pub length-chunks-sum : {A : Type 0} (n : ℕ) (f : ℕ → List A) → length (chunks n f) ≡ sum (λ i. length (f i)) 0 n
+unfolding chunks sum
+length-chunks-sum zero f = refl
+length-chunks-sum (suc n) f = rw (length-append, length-chunks-sum n f, zero-add)
+
+-- element j of chunk i
+pub getD-chunks : {A : Type 0} (n : ℕ) (f : ℕ → List A) (d : A) (i j : ℕ) → i < n → j < length (f i)
+    → getD (chunks n f) (length (chunks i f) + j) d ≡ getD (f i) j d
+getD-chunks {A} n f d i j h l =
+    let e : (i + 1) + (n - (i + 1)) ≡ n = omega arith in
+    let split : chunks n f ≡ chunks i f ++ (f i ++ chunks (n - (i + 1)) (λ k. f (i + 1 + k))) =
+    ap (λ (k : ℕ). chunks k f) (sym e) ∙ chunks-add (i + 1) (n - (i + 1)) f ∙ rw (chunks-more, append-assoc) in
+    ap (λ (l : List A). getD l (length (chunks i f) + j) d) split
+    ∙ getD-append-add (chunks i f) _ j d
+    ∙ List·getD-append (f i) _ d j l
+
+-- chunks of one element each
+pub length-ones : {A : Type 0} (n : ℕ) (f : ℕ → A) → length (chunks n (λ i. f i ∷ [])) ≡ n
+length-ones n f = length-chunks 1 n (λ i. f i ∷ []) (λ i. refl) ∙ omega arith
+
+pub getD-ones : {A : Type 0} (n : ℕ) (f : ℕ → A) (d : A) (i : ℕ) → i < n → getD (chunks n (λ i. f i ∷ [])) i d ≡ f i
+getD-ones n f d i h =
+    let e : i ≡ length (chunks i (λ i. f i ∷ [])) + 0 = omega (arith, length-ones i f) in
+    ap (λ (k : ℕ). getD (chunks n (λ i. f i ∷ [])) k d) e ∙ getD-chunks n (λ i. f i ∷ []) d i 0 h (omega arith)
+
+-- tests made chunk by chunk
+pub all-chunks : (n : ℕ) (f : ℕ → List Bool) → all (chunks n f) ≡ true → (i : ℕ) → i < n → all (f i) ≡ true
+unfolding chunks
+all-chunks zero f e i h = absurd (omega arith)
+all-chunks (suc n) f e i h =
+    let s = sym (all-append (chunks n f) (f n)) ∙ e in
+    by-cases (eqb i n)
+    (λ q. rw (eqb-true i n q) (and-right (all (chunks n f)) _ s))
+    (λ q. all-chunks n f (and-left (all (chunks n f)) _ s) i (omega (arith, eqb-false i n q)))
+
+pub chunks-all : (n : ℕ) (f : ℕ → List Bool) → ((i : ℕ) → i < n → all (f i) ≡ true) → all (chunks n f) ≡ true
+unfolding chunks all
+chunks-all zero f h = refl
+chunks-all (suc n) f h =
+    all-append (chunks n f) (f n) ∙ and-intro (chunks-all n f (λ i l. h i (omega arith))) (h n (omega arith))
+
+-- ---- sums
+
+pub sum-more : (g : ℕ → ℕ) (a n : ℕ) → sum g a (n + 1) ≡ sum g a n + g (a + n)
+unfolding sum
+sum-more g a n = rw add-one
+
+pub sum-ext : (g h : ℕ → ℕ) (a n : ℕ) → ((i : ℕ) → a ≤ i → i < a + n → g i ≡ h i) → sum g a n ≡ sum h a n
+unfolding sum
+sum-ext g h a zero e = refl
+sum-ext g h a (suc n) e = rw (sum-ext g h a n (λ i l u. e i l (omega arith)), e (a + n) (omega arith) (omega arith))
+
+pub sum-add : (g : ℕ → ℕ) (a n m : ℕ) → sum g a (n + m) ≡ sum g a n + sum g (a + n) m
+unfolding sum
+sum-add g a n zero = rw (add-zero, add-zero)
+sum-add g a n (suc m) = rw (add-suc, sum, sum-add g a n m, add-assoc a n m) (omega arith)
+
+-- all alike
+pub sum-same : (g : ℕ → ℕ) (a n c : ℕ) → ((i : ℕ) → a ≤ i → i < a + n → g i ≡ c) → sum g a n ≡ n * c
+unfolding sum
+sum-same g a zero c e = sym (zero-mul c)
+sum-same g a (suc n) c e = rw (sum-same g a n c (λ i l u. e i l (omega arith)), e (a + n) (omega arith) (omega arith), suc-mul)
+
+pub sum-le : (g : ℕ → ℕ) (a n c : ℕ) → ((i : ℕ) → a ≤ i → i < a + n → g i ≤ c) → sum g a n ≤ n * c
+unfolding sum
+sum-le g a zero c e = zero-le
+sum-le g a (suc n) c e =
+    rw suc-mul (omega (arith, sum-le g a n c (λ i l u. e i l (omega arith)), e (a + n) (omega arith) (omega arith)))
+
+-- more numbers sum to no less
+pub sum-below : (g : ℕ → ℕ) (a n m : ℕ) → n ≤ m → sum g a n ≤ sum g a m
+sum-below g a n m h =
+    let e : n + (m - n) ≡ m = omega arith in
+    omega (arith, ap (λ (k : ℕ). sum g a k) e, sum-add g a n (m - n))
+
+-- ---- the last start at or below a number
+
+pub last-below : (start : ℕ → ℕ) (n x : ℕ) → 0 < n → lastStart start n x < n
+unfolding lastStart
+last-below start zero x h = absurd (omega arith)
+last-below start (suc n) x h =
+    by-cases (leb (start n) x)
+    (λ e. rw e (omega arith))
+    (λ e. rw e (by-cases (eqb n 0) (λ z. rw (eqb-true n 0 z) (omega arith)) (λ z. omega (arith, last-below start n x (omega (arith, eqb-false n 0 z))))))
+
+-- k is the last whose start is at or below x
+pub last-is : (start : ℕ → ℕ) (n x k : ℕ) → k < n → start k ≤ x → ((i : ℕ) → k < i → i < n → x < start i) → lastStart start n x ≡ k
+unfolding lastStart
+last-is start zero x k h a b = absurd (omega arith)
+last-is start (suc n) x k h a b =
+    by-cases (eqb k n)
+    (λ e. let q = eqb-true k n e in rw (← q, le-leb (start k) x a))
+    (λ e.
+    let l : k < n = omega (arith, eqb-false k n e) in
+    rw (lt-leb (start n) x (b n l (omega arith))) (last-is start n x k l a (λ i u v. b i u (omega arith))))
+
+-- what it gives starts at or below x, where the first does, and the next starts above
+pub last-starts : (start : ℕ → ℕ) (n x : ℕ) → 0 < n → start 0 ≤ x → start (lastStart start n x) ≤ x
+unfolding lastStart
+last-starts start zero x h z = absurd (omega arith)
+last-starts start (suc n) x h z =
+    by-cases (leb (start n) x)
+    (λ e. rw e (leb-true (start n) x e))
+    (λ e.
+    rw e
+    (by-cases (eqb n 0)
+    (λ q. let w = leb-false (start n) x e in absurd (omega (arith, ap start (eqb-true n 0 q))))
+    (λ q. last-starts start n x (omega (arith, eqb-false n 0 q)) z)))
+
+pub last-next : (start : ℕ → ℕ) (n x : ℕ) (i : ℕ) → lastStart start n x < i → i < n → x < start i
+unfolding lastStart
+last-next start zero x i h l = absurd (omega arith)
+last-next start (suc n) x i h l =
+    by-cases (leb (start n) x)
+    (λ e. let w = rw e at h in absurd (omega arith))
+    (λ e.
+    by-cases (eqb i n)
+    (λ q. rw (eqb-true i n q) (leb-false (start n) x e))
+    (λ q. last-next start n x i (rw e at h) (omega (arith, eqb-false i n q))))

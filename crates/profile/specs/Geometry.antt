@@ -1,0 +1,76 @@
+-- Regions, lines and their lengths, and sums of line lengths.
+-- Assumes nothing.
+use Prim.Native.Nat.{ℕ, _+_, _-_, _%_, min}
+use mathlib.Core.List.{List, [], _∷_}
+use mathlib.Core.Bool.{Bool, cond, _&&_}
+use lib.ListN.{getD}
+use lib.Dec.{ltb, eqb}
+use Rattle.profile.specs.Lists.{sum, lastStart}
+use Rattle.profile.specs.Values.{emptyRegion, emptySequence}
+use Rattle.profile.specs.Patterns.{patternOf}
+use Rattle.profile.specs.declared.Region.{Region}
+use Rattle.profile.specs.declared.Sequence.{Sequence}
+use Rattle.profile.specs.declared.Field.{Field}
+use Rattle.profile.specs.declared.Tables.{Tables}
+use Rattle.profile.specs.declared.Pattern.{Pattern}
+
+-- how many regions there are: seven at most, whatever the field's number says
+abbrev pub regionCount : Field → ℕ
+regionCount f = min (f .count) 7
+
+abbrev pub regionAt : Field → ℕ → Region
+regionAt f i = getD (f .regions) i emptyRegion
+
+abbrev pub firstLine : Field → ℕ → ℕ
+firstLine f i = regionAt f i .first
+
+-- the line after a region's last: where the next region starts, or the field ends
+unfoldable pub endLine : Field → ℕ → ℕ
+endLine f i = cond (ltb (i + 1) (regionCount f)) (firstLine f (i + 1)) (f .lines)
+
+-- the region in which a line lies: the last that starts at or before it
+unfoldable pub regionOf : Field → ℕ → ℕ
+regionOf f line = lastStart (firstLine f) (regionCount f) line
+
+abbrev pub sequenceOf : Tables → ℕ → Sequence
+sequenceOf t k = getD (t .sequences) k emptySequence
+
+-- a region's sequence and its pattern
+abbrev pub sequenceAt : Tables → Field → ℕ → Sequence
+sequenceAt t f i = sequenceOf t (regionAt f i .sequence)
+
+abbrev pub patternAt : Tables → Field → ℕ → Pattern
+patternAt t f i = patternOf (t .registers) (sequenceAt t f i .pattern)
+
+-- "A line has its region's sequence length; the field's last line has the last-line length instead."
+unfoldable pub lengthIn : Tables → Field → ℕ → ℕ → ℕ
+lengthIn t f i line = cond (eqb (line + 1) (f .lines)) (f .last) (sequenceAt t f i .length)
+
+unfoldable pub lineLength : Tables → Field → ℕ → ℕ
+lineLength t f line = lengthIn t f (regionOf f line) line
+
+-- the pixels of a region's lines before a line; "A region's size is the sum of its line lengths."
+unfoldable pub regionPixels : Tables → Field → ℕ → ℕ → ℕ
+regionPixels t f i line = sum (lengthIn t f i) (firstLine f i) (line - firstLine f i)
+
+abbrev pub regionSize : Tables → Field → ℕ → ℕ
+regionSize t f i = regionPixels t f i (endLine f i)
+
+-- the pixels of the field's lines before a line; "the field's pixel count (the sum of its line lengths)"
+unfoldable pub pixelsBefore : Tables → Field → ℕ → ℕ
+pixelsBefore t f line = sum (lineLength t f) 0 line
+
+unfoldable pub pixelCount : Tables → Field → ℕ
+pixelCount t f = pixelsBefore t f (f .lines)
+
+-- there is such a line and pixel
+unfoldable pub hasPixel : Tables → Field → ℕ → ℕ → Bool
+hasPixel t f line pixel = ltb line (f .lines) && ltb pixel (lineLength t f line)
+
+-- "lines 0, 2, 4 and so on take the odd count (line 0 is the first), lines 1, 3, 5 the even one"
+abbrev pub repetitions : Sequence → ℕ → ℕ
+repetitions s line = cond (eqb (line % 2) 0) (s .odd) (s .even)
+
+-- the lines on which gates and the second pattern act; SUBCK counts from the first of them
+abbrev pub gateLines : Field → List ℕ
+gateLines f = f .gate ∷ []

@@ -1,0 +1,9 @@
+pub mod Lists
+pub mod Bytes
+pub mod Values
+pub mod Patterns
+pub mod Geometry
+pub mod Ranges
+pub mod Rules
+pub mod Script
+pub mod Writing

@@ -1,0 +1,31 @@
+-- Lists made chunk by chunk, tests under one `all`, sums over a run of numbers, and the last start at or below a number.
+-- Assumes nothing.
+use Prim.Native.Nat.{ℕ, zero, suc, _+_}
+use mathlib.Core.List.{List, [], _∷_, _++_}
+use mathlib.Core.Bool.{Bool, true, false, cond}
+use lib.Dec.{leb}
+use lib.ListN.{length, drop}
+
+-- whether every test of a list passes
+unfoldable pub all : List Bool → Bool
+all [] = true
+all (b ∷ bs) = cond b (all bs) false
+
+-- the chunks f 0, f 1, .., f (n - 1), one after the other
+unfoldable pub chunks : {A : Type 0} → ℕ → (ℕ → List A) → List A
+chunks zero f = []
+chunks (suc n) f = chunks n f ++ f n
+
+-- g a + g (a + 1) + .. + g (a + n - 1)
+unfoldable pub sum : (ℕ → ℕ) → ℕ → ℕ → ℕ
+sum g a zero = 0
+sum g a (suc n) = sum g a n + g (a + n)
+
+-- the last i below n whose start is at or below x; 0 where there is none
+unfoldable pub lastStart : (ℕ → ℕ) → ℕ → ℕ → ℕ
+lastStart start zero x = 0
+lastStart start (suc i) x = cond (leb (start i) x) i (lastStart start i x)
+
+-- new over the front of old: what is past it keeps what it held
+abbrev pub over : {A : Type 0} → List A → List A → List A
+over new old = new ++ drop (length new) old

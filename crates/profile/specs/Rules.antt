@@ -1,0 +1,197 @@
+-- The rules over a profile as one ordered list of entries, and the first that does not hold.
+-- Assumes nothing.
+use Prim.Native.Nat.{ℕ, _+_, _-_, _*_, _/_, _%_}
+use mathlib.Core.List.{List, [], _∷_, _++_, map}
+use mathlib.Core.Bool.{Bool, true, false, cond, not, _&&_, _||_}
+use lib.ListN.{getD}
+use lib.Dec.{ltb, leb, eqb}
+use Rattle.profile.specs.Lists.{all, chunks}
+use Rattle.profile.specs.Values.{accepted, refused, emptyGate, emptyShutter}
+use Rattle.profile.specs.Patterns.{patternOf, rowOf, toggleFault, highestUsed}
+use Rattle.profile.specs.Geometry.{
+  regionCount,
+  regionAt,
+  firstLine,
+  regionOf,
+  sequenceAt,
+  patternAt,
+  lineLength,
+  regionSize,
+  hasPixel,
+  repetitions,
+  gateLines,
+}
+use Rattle.profile.specs.Ranges.{inRange}
+use Rattle.profile.specs.declared.Mode.{Mode}
+use Rattle.profile.specs.declared.Mode.the-variants.{Plain, Sweep, Multiplier}
+use Rattle.profile.specs.declared.Sequence.{Sequence}
+use Rattle.profile.specs.declared.Pattern.{Pattern}
+use Rattle.profile.specs.declared.Gate.{Gate}
+use Rattle.profile.specs.declared.Subck.{Subck}
+use Rattle.profile.specs.declared.Shutter.{Shutter}
+use Rattle.profile.specs.declared.Tables.{Tables}
+use Rattle.profile.specs.declared.Field.{Field}
+use Rattle.profile.specs.declared.Profile.{Profile}
+use Rattle.profile.specs.declared.Verdict.{Verdict}
+
+-- a rule at a place: what is answered where it does not hold, and whether it does
+pub record Entry : Type 0 where
+  pub verdict : Verdict
+  pub holds : Bool
+
+abbrev pub rule : ℕ → ℕ → Bool → Entry
+rule number place holds = record { verdict = refused number place; holds = holds }
+
+-- the verdict of the first entry that does not hold
+unfoldable pub firstBroken : List Entry → Verdict
+firstBroken [] = accepted
+firstBroken (e ∷ es) = cond (e .holds) (firstBroken es) (e .verdict)
+
+-- 7: "the first region starts at line 0, starts rise strictly, each is below the line count"
+unfoldable pub startsRight : Field → ℕ → Bool
+startsRight f i =
+    ltb (firstLine f i) (f .lines)
+    && cond (eqb i 0) (eqb (firstLine f i) 0) (ltb (firstLine f (i - 1)) (firstLine f i))
+
+-- 10: the toggles of output k of a pattern
+unfoldable pub togglesRight : Mode → Pattern → ℕ → Bool
+togglesRight m a k = eqb (toggleFault m (a .length) (rowOf a k)) 0
+
+-- 11: "a mask bit turns on its pair (bit 0 pair 1, bit 1 pair 2) of the region's pattern"
+abbrev pub pairOn : ℕ → ℕ → Bool
+pairOn mask bit = eqb (mask / bit % 2) 1
+
+-- 11, plain: "Each pair turned on has freeze below resume; with both, resume 1 is at most freeze 2."
+unfoldable pub pairsRight : ℕ → Pattern → Bool
+pairsRight mask a =
+    (not (pairOn mask 1) || ltb (a .freeze1) (a .resume1))
+    && (not (pairOn mask 2) || ltb (a .freeze2) (a .resume2))
+    && (not (pairOn mask 1 && pairOn mask 2) || leb (a .resume1) (a .freeze2))
+
+-- 11: "A mask is 0 in sweep and multiplier."
+unfoldable pub maskRight : Mode → ℕ → Pattern → Bool
+maskRight Plain mask a = pairsRight mask a
+maskRight Sweep mask a = eqb mask 0
+maskRight Multiplier mask a = eqb mask 0
+
+-- 12: "sweep: both counts are equal. Multiplier: both equal the highest used toggle of all six outputs, 0 if none"
+unfoldable pub countsRight : Mode → Sequence → Pattern → Bool
+countsRight Plain s a = true
+countsRight Sweep s a = eqb (s .odd) (s .even)
+countsRight Multiplier s a = eqb (s .odd) (highestUsed (a .toggles) 18) && eqb (s .even) (highestUsed (a .toggles) 18)
+
+-- 13: "sweep and multiplier: start + repetitions × length is at most the region's size"
+unfoldable pub endsRight : Mode → Sequence → Pattern → ℕ → Bool
+endsRight Plain s a size = true
+endsRight Sweep s a size = leb (s .start + s .odd * a .length) size
+endsRight Multiplier s a size = leb (s .start + s .odd * a .length) size
+
+abbrev pub isPlain : Mode → Bool
+isPlain Plain = true
+isPlain Sweep = false
+isPlain Multiplier = false
+
+-- 14: "if that line's repetitions r are not 0, start + r × first length is at most the second's length"
+abbrev pub firstEnds : Sequence → ℕ → ℕ → ℕ → Bool
+firstEnds s line firstLength secondLength =
+    eqb (repetitions s line) 0 || leb (s .start + repetitions s line * firstLength) secondLength
+
+-- 14: a second pattern a on gate line g: "its line lies in a plain region, its length is not 0, its toggles obey 10, its length is below
+-- the gate line's length", and the first pattern has ended
+unfoldable pub secondRight : Tables → Field → Pattern → ℕ → Bool
+secondRight t f a g =
+    isPlain (regionAt f (regionOf f g) .mode)
+    && not (eqb (a .length) 0)
+    && all (chunks 6 (λ k. togglesRight Multiplier a k ∷ []))
+    && ltb (a .length) (lineLength t f g)
+    && firstEnds (sequenceAt t f (regionOf f g)) g (patternAt t f (regionOf f g) .length) (a .length)
+
+-- whether the field has a second pattern: "65,535 for none"
+abbrev pub hasSecond : Field → Bool
+hasSecond f = not (eqb (f .second) 65535)
+
+abbrev pub secondOf : Tables → Field → Pattern
+secondOf t f = patternOf (t .registers) (f .second)
+
+-- 15: "a gate that is on has toggle 1 below toggle 2 below the gate line's length"
+abbrev pub gateOn : Gate → Bool
+gateOn g = g .present && eqb (g .on) 1
+
+unfoldable pub gateRight : Gate → ℕ → Bool
+gateRight g length = not (gateOn g) || ltb (g .toggle1) (g .toggle2) && ltb (g .toggle2) length
+
+-- 16: "toggle 1 below toggle 2, suppressed lines at least 1"
+unfoldable pub subckRight : Subck → Bool
+subckRight s = not (s .present) || ltb (s .toggle1) (s .toggle2) && leb 1 (s .suppressed)
+
+-- one place comes before another: "line, then pixel"
+abbrev pub comesBefore : ℕ → ℕ → ℕ → ℕ → Bool
+comesBefore line pixel line′ pixel′ = ltb line line′ || eqb line line′ && ltb pixel pixel′
+
+-- 17: "both places exist in the field, and on comes before off"
+unfoldable pub shutterRight : Tables → Field → Shutter → Bool
+shutterRight t f s =
+    not (s .present)
+    || hasPixel t f (s .«on_line») (s .«on_pixel»)
+    && hasPixel t f (s .«off_line») (s .«off_pixel»)
+    && comesBefore (s .«on_line») (s .«on_pixel») (s .«off_line») (s .«off_pixel»)
+
+-- "7 for all regions"
+abbrev pub orderEntries : Field → ℕ → List Entry
+orderEntries f i = rule 7 i (startsRight f i) ∷ []
+
+-- 10, an entry an output
+abbrev pub toggleEntries : Tables → Field → ℕ → ℕ → List Entry
+toggleEntries t f i k = rule 10 i (togglesRight (regionAt f i .mode) (patternAt t f i) k) ∷ []
+
+-- 11 to 13 of a region
+abbrev pub runEntries : Tables → Field → ℕ → List Entry
+runEntries t f i =
+    rule 11 i (maskRight (regionAt f i .mode) (sequenceAt t f i .mask) (patternAt t f i))
+    ∷ rule 12 i (countsRight (regionAt f i .mode) (sequenceAt t f i) (patternAt t f i))
+    ∷ rule 13 i (endsRight (regionAt f i .mode) (sequenceAt t f i) (patternAt t f i) (regionSize t f i))
+    ∷ []
+
+-- "then, region by region, 8 to 13"
+unfoldable pub regionEntries : Tables → Field → ℕ → List Entry
+regionEntries t f i =
+    rule 8 i (sequenceAt t f i .present)
+    ∷ rule 9 i (not (eqb (patternAt t f i .length) 0))
+    ∷ chunks 6 (toggleEntries t f i)
+    ++ runEntries t f i
+
+-- "then 14": every gate line is below the line count, and the second pattern is right on each
+unfoldable pub lineEntries : Tables → Field → List Entry
+lineEntries t f =
+    rule 14 0 (all (map (λ (g : ℕ). ltb g (f .lines)) (gateLines f)))
+    ∷ rule 14 0 (not (hasSecond f) || all (map (secondRight t f (secondOf t f)) (gateLines f)))
+    ∷ []
+
+-- "15 by gate", on every gate line
+abbrev pub gateEntries : Tables → Field → ℕ → List Entry
+gateEntries t f k =
+    rule 15 k (all (map (λ (g : ℕ). gateRight (getD (t .gates) k emptyGate) (lineLength t f g)) (gateLines f))) ∷ []
+
+abbrev pub subckEntries : Tables → List Entry
+subckEntries t = rule 16 0 (subckRight (t .subck)) ∷ []
+
+-- "17 (MSHUT first)"
+abbrev pub shutterEntries : Tables → Field → ℕ → List Entry
+shutterEntries t f k = rule 17 k (shutterRight t f (getD (t .shutters) k emptyShutter)) ∷ []
+
+unfoldable pub rulesOf : Tables → Field → List Entry
+rulesOf t f =
+    chunks (regionCount f) (orderEntries f)
+    ++ chunks (regionCount f) (regionEntries t f)
+    ++ lineEntries t f
+    ++ chunks 5 (gateEntries t f)
+    ++ subckEntries t
+    ++ chunks 2 (shutterEntries t f)
+
+-- "then 6; then 7 ..": what is judged of a profile whose numbers are in range
+unfoldable pub judge : Profile → Verdict
+judge p = cond (p .field .present) (firstBroken (rulesOf (p .tables) (p .field))) (refused 6 0)
+
+-- a profile handed in: 5, then 6 to 17
+unfoldable pub checkProfile : Profile → Verdict
+checkProfile p = cond (inRange p) (judge p) (refused 5 0)

@@ -1,0 +1,227 @@
+-- What reading a script gives: the records (2 to 5), the length test (1), the judging (6 to 17).
+-- Assumes nothing.
+use Prim.Native.Nat.{ℕ, zero, suc, _+_, _-_, _*_, _/_, _%_}
+use mathlib.Core.List.{List, [], _∷_, _++_}
+use mathlib.Core.Bool.{Bool, true, false, cond, not, _&&_, _||_}
+use lib.ListN.{length, getD, take, drop, set, replicate}
+use lib.Dec.{ltb, leb, eqb}
+use Rattle.profile.specs.Lists.{all, chunks}
+use Rattle.profile.specs.Bytes.{numberAt, dataAt}
+use Rattle.profile.specs.Values.{modeOf, emptyRegion, emptyProfile, accepted, refused, accepts, readAnswer}
+use Rattle.profile.specs.Ranges.{sequenceRange, fieldRange, regionRange, gateRange, subckRange, shutterRange}
+use Rattle.profile.specs.Rules.{judge}
+use Rattle.profile.specs.declared.Region.{Region}
+use Rattle.profile.specs.declared.Sequence.{Sequence}
+use Rattle.profile.specs.declared.Field.{Field}
+use Rattle.profile.specs.declared.Gate.{Gate}
+use Rattle.profile.specs.declared.Subck.{Subck}
+use Rattle.profile.specs.declared.Shutter.{Shutter}
+use Rattle.profile.specs.declared.Tables.{Tables}
+use Rattle.profile.specs.declared.Profile.{Profile}
+use Rattle.profile.specs.declared.ReadAnswer.{ReadAnswer}
+
+-- Kind 1, register: "address byte, 3 data bytes. Address 0x00 to 0x77"; of a pattern's word 0 "bits 6..11 must be 0 (else 5)"
+unfoldable pub registerFits : List ℕ → Bool
+registerFits b = all (leb (getD b 0 0) 0x77 ∷ (not (eqb (getD b 0 0 % 12) 0) || eqb (dataAt b 1 / 64 % 64) 0) ∷ [])
+
+-- "low half (bits 0..11) then high half (bits 12..23)"
+abbrev pub withRegister : List ℕ → Tables → Tables
+withRegister b t =
+    record {
+      registers = set (set (t .registers) (2 * getD b 0 0) (dataAt b 1 % 4096)) (2 * getD b 0 0 + 1) (dataAt b 1 / 4096);
+      sequences = t .sequences;
+      gates = t .gates;
+      subck = t .subck;
+      shutters = t .shutters;
+    }
+
+-- Kind 2, sequence: "number 0..9, pattern, line length, start, odd repetitions, even repetitions, mask"
+abbrev pub sequenceFrom : List ℕ → Sequence
+sequenceFrom b =
+    record {
+      present = true;
+      pattern = numberAt b 2;
+      length = numberAt b 4;
+      start = numberAt b 6;
+      odd = numberAt b 8;
+      even = numberAt b 10;
+      mask = numberAt b 12;
+    }
+
+unfoldable pub sequenceFits : List ℕ → Bool
+sequenceFits b = all (leb (numberAt b 0) 9 ∷ sequenceRange (sequenceFrom b))
+
+abbrev pub withSequence : List ℕ → Tables → Tables
+withSequence b t =
+    record {
+      registers = t .registers;
+      sequences = set (t .sequences) (numberAt b 0) (sequenceFrom b);
+      gates = t .gates;
+      subck = t .subck;
+      shutters = t .shutters;
+    }
+
+-- Kind 3, field: "lines, last-line length, gate line, second pattern, n, then n regions: first line, sequence, mode"
+abbrev pub regionFrom : List ℕ → ℕ → Region
+regionFrom b i =
+    record {
+      first = numberAt b (10 + 6 * i);
+      sequence = numberAt b (12 + 6 * i);
+      mode = modeOf (numberAt b (14 + 6 * i));
+    }
+
+abbrev pub regionsFrom : List ℕ → ℕ → List Region
+regionsFrom b n = chunks n (λ i. regionFrom b i ∷ [])
+
+unfoldable pub fieldFrom : List ℕ → Field
+fieldFrom b =
+    record {
+      present = true;
+      lines = numberAt b 0;
+      last = numberAt b 2;
+      gate = numberAt b 4;
+      second = numberAt b 6;
+      count = numberAt b 8;
+      regions = regionsFrom b (numberAt b 8) ++ replicate (7 - numberAt b 8) emptyRegion;
+    }
+
+-- the tests of region i of a body
+abbrev pub regionFits : List ℕ → ℕ → List Bool
+regionFits b i = leb (numberAt b (14 + 6 * i)) 2 ∷ regionRange (regionFrom b i)
+
+-- "An n that disagrees with the length is refusal 5."
+unfoldable pub fieldFits : List ℕ → Bool
+fieldFits b =
+    all (eqb (10 + 6 * numberAt b 8) (length b) ∷ fieldRange (fieldFrom b))
+    && all (chunks (numberAt b 8) (regionFits b))
+
+-- Kind 4, gate: "number 0..4, on, start level, toggle 1, toggle 2"
+abbrev pub gateFrom : List ℕ → Gate
+gateFrom b =
+    record { present = true; on = numberAt b 2; level = numberAt b 4; toggle1 = numberAt b 6; toggle2 = numberAt b 8 }
+
+unfoldable pub gateFits : List ℕ → Bool
+gateFits b = all (leb (numberAt b 0) 4 ∷ gateRange (gateFrom b))
+
+abbrev pub withGate : List ℕ → Tables → Tables
+withGate b t =
+    record {
+      registers = t .registers;
+      sequences = t .sequences;
+      gates = set (t .gates) (numberAt b 0) (gateFrom b);
+      subck = t .subck;
+      shutters = t .shutters;
+    }
+
+-- Kind 5, SUBCK: "start level, toggle 1, toggle 2, suppressed lines, count"
+abbrev pub subckFrom : List ℕ → Subck
+subckFrom b =
+    record {
+      present = true;
+      level = numberAt b 0;
+      toggle1 = numberAt b 2;
+      toggle2 = numberAt b 4;
+      suppressed = numberAt b 6;
+      count = numberAt b 8;
+    }
+
+unfoldable pub subckFits : List ℕ → Bool
+subckFits b = all (subckRange (subckFrom b))
+
+abbrev pub withSubck : List ℕ → Tables → Tables
+withSubck b t =
+    record {
+      registers = t .registers;
+      sequences = t .sequences;
+      gates = t .gates;
+      subck = subckFrom b;
+      shutters = t .shutters;
+    }
+
+-- Kind 6, shutter: "which (0 MSHUT, 1 STROBE), active level, on line, on pixel, off line, off pixel"
+abbrev pub shutterFrom : List ℕ → Shutter
+shutterFrom b =
+    record {
+      present = true;
+      active = numberAt b 2;
+      «on_line» = numberAt b 4;
+      «on_pixel» = numberAt b 6;
+      «off_line» = numberAt b 8;
+      «off_pixel» = numberAt b 10;
+    }
+
+unfoldable pub shutterFits : List ℕ → Bool
+shutterFits b = all (leb (numberAt b 0) 1 ∷ shutterRange (shutterFrom b))
+
+abbrev pub withShutter : List ℕ → Tables → Tables
+withShutter b t =
+    record {
+      registers = t .registers;
+      sequences = t .sequences;
+      gates = t .gates;
+      subck = t .subck;
+      shutters = set (t .shutters) (numberAt b 0) (shutterFrom b);
+    }
+
+-- one of six things by the kind of a record
+abbrev pub byKind : {A : Type 0} → ℕ → A → A → A → A → A → A → A
+byKind kind a b c d e f =
+    cond (eqb kind 1) a (cond (eqb kind 2) b (cond (eqb kind 3) c (cond (eqb kind 4) d (cond (eqb kind 5) e f))))
+
+abbrev pub known : ℕ → Bool
+known kind = leb 1 kind && leb kind 6
+
+-- "Kind 3, field, 10 + 6n bytes, n = 1..7"
+abbrev pub fieldLength : ℕ → Bool
+fieldLength len = leb 16 len && leb len 52 && eqb ((len - 10) % 6) 0
+
+-- the body lengths that a kind allows
+unfoldable pub allowed : ℕ → ℕ → Bool
+allowed kind len = byKind kind (eqb len 4) (eqb len 14) (fieldLength len) (eqb len 10) (eqb len 10) (eqb len 12)
+
+unfoldable pub fits : ℕ → List ℕ → Bool
+fits kind b = byKind kind (registerFits b) (sequenceFits b) (fieldFits b) (gateFits b) (subckFits b) (shutterFits b)
+
+-- "A later record for the same item replaces the earlier."
+unfoldable pub put : ℕ → List ℕ → Profile → Profile
+put kind b p =
+    byKind kind
+    (record { tables = withRegister b (p .tables); field = p .field })
+    (record { tables = withSequence b (p .tables); field = p .field })
+    (record { tables = p .tables; field = fieldFrom b })
+    (record { tables = withGate b (p .tables); field = p .field })
+    (record { tables = withSubck b (p .tables); field = p .field })
+    (record { tables = withShutter b (p .tables); field = p .field })
+
+-- one record at the front of s: refused with a number, or a body of so many bytes taken, and the profile with it
+pub data Step : Type 0 where
+  stop : ℕ → Step
+  next : ℕ → Profile → Step
+
+-- the body of the record at the front of s
+abbrev pub bodyOf : List ℕ → List ℕ
+bodyOf s = take (numberAt s 0) (drop 4 s)
+
+-- "header cut (2), kind (3), length (4), body cut (2), values (5)"
+unfoldable pub step : List ℕ → Profile → Step
+step s p =
+    cond (ltb (length s) 4) (stop 2)
+    (cond (not (known (numberAt s 2))) (stop 3)
+    (cond (not (allowed (numberAt s 2) (numberAt s 0))) (stop 4)
+    (cond (ltb (length s) (4 + numberAt s 0)) (stop 2)
+    (cond (fits (numberAt s 2) (bodyOf s)) (next (numberAt s 0) (put (numberAt s 2) (bodyOf s) p)) (stop 5)))))
+
+-- "record by record": the rest of a script, of which skip bytes are still the last record's; at is the offset of its front
+unfoldable pub records : ℕ → ℕ → List ℕ → Profile → ReadAnswer
+records skip at [] p = readAnswer accepted p
+records zero at (x ∷ xs) p =
+    elim (step (x ∷ xs) p) [ stop n ↦ readAnswer (refused n at) p | next len q ↦ records (3 + len) (at + 1) xs q ]
+records (suc skip) at (x ∷ xs) p = records skip (at + 1) xs p
+
+-- "then 6; then 7 ..", where the records were taken
+abbrev pub judged : ReadAnswer → ReadAnswer
+judged r = cond (accepts (r .verdict)) (readAnswer (judge (r .profile)) (r .profile)) r
+
+-- 1, "script over 16,384 bytes", comes first
+unfoldable pub readScript : List ℕ → ReadAnswer
+readScript s = cond (leb (length s) 16384) (judged (records 0 0 s emptyProfile)) (readAnswer (refused 1 0) emptyProfile)

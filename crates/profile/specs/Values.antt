@@ -1,0 +1,82 @@
+-- The numbers of the modes, the empty profile ("nothing present, all zeros"), verdicts and the answer of a read.
+-- Assumes nothing.
+use Prim.Native.Nat.{ℕ}
+use mathlib.Core.Path.{_≡_}
+use mathlib.Core.Bool.{Bool, true, false, cond}
+use lib.ListN.{length, replicate}
+use lib.Dec.{eqb}
+use Rattle.profile.specs.declared.Mode.{Mode}
+use Rattle.profile.specs.declared.Mode.the-variants.{Plain, Sweep, Multiplier}
+use Rattle.profile.specs.declared.Region.{Region}
+use Rattle.profile.specs.declared.Sequence.{Sequence}
+use Rattle.profile.specs.declared.Field.{Field}
+use Rattle.profile.specs.declared.Gate.{Gate}
+use Rattle.profile.specs.declared.Subck.{Subck}
+use Rattle.profile.specs.declared.Shutter.{Shutter}
+use Rattle.profile.specs.declared.Tables.{Tables}
+use Rattle.profile.specs.declared.Profile.{Profile}
+use Rattle.profile.specs.declared.Verdict.{Verdict}
+use Rattle.profile.specs.declared.ReadAnswer.{ReadAnswer}
+
+-- "mode 0 plain, 1 sweep, 2 multiplier"
+abbrev pub modeNumber : Mode → ℕ
+modeNumber Plain = 0
+modeNumber Sweep = 1
+modeNumber Multiplier = 2
+
+abbrev pub modeOf : ℕ → Mode
+modeOf n = cond (eqb n 0) Plain (cond (eqb n 1) Sweep Multiplier)
+
+abbrev pub emptyRegion : Region
+emptyRegion = record { first = 0; sequence = 0; mode = Plain }
+
+abbrev pub emptySequence : Sequence
+emptySequence = record { present = false; pattern = 0; length = 0; start = 0; odd = 0; even = 0; mask = 0 }
+
+abbrev pub emptyGate : Gate
+emptyGate = record { present = false; on = 0; level = 0; toggle1 = 0; toggle2 = 0 }
+
+abbrev pub emptySubck : Subck
+emptySubck = record { present = false; level = 0; toggle1 = 0; toggle2 = 0; suppressed = 0; count = 0 }
+
+abbrev pub emptyShutter : Shutter
+emptyShutter = record { present = false; active = 0; «on_line» = 0; «on_pixel» = 0; «off_line» = 0; «off_pixel» = 0 }
+
+unfoldable pub emptyField : Field
+emptyField =
+    record { present = false; lines = 0; last = 0; gate = 0; second = 0; count = 0; regions = replicate 7 emptyRegion }
+
+unfoldable pub emptyTables : Tables
+emptyTables =
+    record {
+      registers = replicate 240 0;
+      sequences = replicate 10 emptySequence;
+      gates = replicate 5 emptyGate;
+      subck = emptySubck;
+      shutters = replicate 2 emptyShutter;
+    }
+
+abbrev pub emptyProfile : Profile
+emptyProfile = record { tables = emptyTables; field = emptyField }
+
+-- the lengths of a profile's arrays: what the types say in code, and what a theorem over any lists has to ask
+pub record Sized (p : Profile) : Type 0 where
+  pub registers : length (p .tables .registers) ≡ 240
+  pub sequences : length (p .tables .sequences) ≡ 10
+  pub gates : length (p .tables .gates) ≡ 5
+  pub shutters : length (p .tables .shutters) ≡ 2
+  pub regions : length (p .field .regions) ≡ 7
+
+abbrev pub accepted : Verdict
+accepted = record { number = 0; place = 0 }
+
+abbrev pub refused : ℕ → ℕ → Verdict
+refused n at = record { number = n; place = at }
+
+-- whether a verdict accepts
+abbrev pub accepts : Verdict → Bool
+accepts v = eqb (v .number) 0
+
+-- "A refused read gives the empty profile"
+abbrev pub readAnswer : Verdict → Profile → ReadAnswer
+readAnswer v p = record { verdict = v; profile = cond (accepts v) p emptyProfile }

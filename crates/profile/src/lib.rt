@@ -1,0 +1,103 @@
+// Scripts and profiles. A profile is what a script carries: the 120 registers as 240 half registers, sequences, the field, gates, SUBCK and
+// shutters. Numbers are u16 as the records carry them, levels and on flags too (0 or 1); presence is a bool.
+
+// How the six V outputs run in a region.
+pub enum Mode {
+    Plain,
+    Sweep,
+    Multiplier,
+}
+
+pub struct Region {
+    pub first: u16,
+    pub sequence: u16,
+    pub mode: Mode,
+}
+
+pub struct Sequence {
+    pub present: bool,
+    pub pattern: u16,
+    pub length: u16,
+    pub start: u16,
+    pub odd: u16,
+    pub even: u16,
+    pub mask: u16,
+}
+
+// `last` is the length of the last line, `second` the second pattern's number or 65,535.
+pub struct Field {
+    pub present: bool,
+    pub lines: u16,
+    pub last: u16,
+    pub gate: u16,
+    pub second: u16,
+    pub count: u16,
+    pub regions: [Region; 7],
+}
+
+pub struct Gate {
+    pub present: bool,
+    pub on: u16,
+    pub level: u16,
+    pub toggle1: u16,
+    pub toggle2: u16,
+}
+
+pub struct Subck {
+    pub present: bool,
+    pub level: u16,
+    pub toggle1: u16,
+    pub toggle2: u16,
+    pub suppressed: u16,
+    pub count: u16,
+}
+
+pub struct Shutter {
+    pub present: bool,
+    pub active: u16,
+    pub on_line: u16,
+    pub on_pixel: u16,
+    pub off_line: u16,
+    pub off_pixel: u16,
+}
+
+// Pattern k's 24 half registers start at 24k. Shutter 0 is MSHUT, shutter 1 STROBE.
+pub struct Tables {
+    pub registers: [u16; 240],
+    pub sequences: [Sequence; 10],
+    pub gates: [Gate; 5],
+    pub subck: Subck,
+    pub shutters: [Shutter; 2],
+}
+
+pub struct Profile {
+    pub tables: Tables,
+    pub field: Field,
+}
+
+// A pattern: the start levels of V1..V6 as bits, its length, three toggles of each output (V1 first to V6 third), two freeze and resume pairs.
+pub struct Pattern {
+    pub levels: u16,
+    pub length: u16,
+    pub toggles: [u16; 18],
+    pub freeze1: u16,
+    pub resume1: u16,
+    pub freeze2: u16,
+    pub resume2: u16,
+}
+
+// 0 or the number of a refusal, and its place.
+pub struct Verdict {
+    pub number: u16,
+    pub place: u64,
+}
+
+pub struct ReadAnswer {
+    pub verdict: Verdict,
+    pub profile: Profile,
+}
+
+pub struct Written {
+    pub verdict: Verdict,
+    pub length: usize,
+}
