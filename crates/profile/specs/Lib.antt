@@ -5,5 +5,6 @@ pub mod Patterns
 pub mod Geometry
 pub mod Ranges
 pub mod Rules
+pub mod Obeys
 pub mod Script
 pub mod Writing
