@@ -81,11 +81,10 @@ module _ {a b : Bool} {A B : Type 0} (f : Says a A) (g : Says b B) where
 
 -- a test of each number below n
 pub says-each : (n : ℕ) (b : ℕ → Bool) (A : ℕ → Type 0) → ((k : ℕ) → Says (b k) (A k)) → Says (all (chunks n (λ k. b k ∷ []))) ((k : ℕ) → k < n → A k)
-says-each n b A f =
-    (
-      (λ e k h. f k .0 (sym (all-one (b k)) ∙ all-chunks n (λ k. b k ∷ []) e k h)),
-      λ w. chunks-all n (λ k. b k ∷ []) (λ k h. all-one (b k) ∙ f k .1 (w k h)),
-    )
+says-each n b A f = (
+  (λ e k h. f k .0 (sym (all-one (b k)) ∙ all-chunks n (λ k. b k ∷ []) e k h)),
+  λ w. chunks-all n (λ k. b k ∷ []) (λ k h. all-one (b k) ∙ f k .1 (w k h)),
+)
 
 -- one test in a list
 pub says-one : {b : Bool} {A : Type 0} → Says b A → Says (all (b ∷ [])) A
@@ -151,8 +150,7 @@ says-mask Plain mask a =
     let on1 = says-eq (mask / 1 % 2) 1 in
     let on2 = says-eq (mask / 2 % 2) 1 in
     let w = says-and (says-and (says-where on1 (says-lt (a .freeze1) (a .resume1))) (says-where on2 (says-lt (a .freeze2) (a .resume2))))
-      (says-where (says-and on1 on2) (says-le (a .resume1) (a .freeze2))) in
-    (
+    (says-where (says-and on1 on2) (says-le (a .resume1) (a .freeze2))) in (
       (λ e. let q = w .0 e in (q .0 .0, q .0 .1, λ x y. q .1 (x, y))),
       λ q. w .1 ((q .0, q .1), λ z. q .2 (z .0) (z .1)),
     )
@@ -218,11 +216,10 @@ no-higher a g h u v = go (u .is)
     go (inr w) = rw (← w .3) (v .above (w .0) (w .1) (rw (w .3) (w .2)))
 
 says-highest : (a : Pattern) (h : ℕ) → Says (eqb h (highestUsed (a .toggles) 18)) (Highest a h)
-says-highest a h =
-    (
-      (λ e. rw (eqb-true h _ e) (highest-is a)),
-      λ w. eq-eqb h _ (omega (arith, no-higher a h _ w (highest-is a), no-higher a _ h (highest-is a) w)),
-    )
+says-highest a h = (
+  (λ e. rw (eqb-true h _ e) (highest-is a)),
+  λ w. eq-eqb h _ (omega (arith, no-higher a h _ w (highest-is a), no-higher a _ h (highest-is a) w)),
+)
 
 pub says-counts : (m : Mode) (s : Sequence) (a : Pattern) → Says (countsRight m s a) (Counts m s a)
 unfolding countsRight
@@ -258,17 +255,16 @@ says-second t f a line =
     let s = sequenceAt t f i in
     let r = repetitions s line in
     let w =
-        says-and
-        (says-and
-        (says-and
-        (says-and (says-plain (regionAt f i .mode)) (says-ne (a .length) 0))
-        (says-each 6 (λ k. togglesRight Multiplier a k) (λ k. Rises Multiplier a k) (λ k. says-toggles Multiplier a k)))
-        (says-lt (a .length) (lineLength t f line)))
-        (says-first-ends r (s .start + r * patternAt t f i .length) (a .length)) in
-    (
+    says-and
+    (says-and
+    (says-and
+    (says-and (says-plain (regionAt f i .mode)) (says-ne (a .length) 0))
+    (says-each 6 (λ k. togglesRight Multiplier a k) (λ k. Rises Multiplier a k) (λ k. says-toggles Multiplier a k)))
+    (says-lt (a .length) (lineLength t f line)))
+    (says-first-ends r (s .start + r * patternAt t f i .length) (a .length)) in (
       (λ e.
-      let q = w .0 e in
-      record { plain = q .0 .0 .0 .0; length = q .0 .0 .0 .1; toggles = q .0 .0 .1; shorter = q .0 .1; first-ends = q .1 }),
+          let q = w .0 e in
+          record { plain = q .0 .0 .0 .0; length = q .0 .0 .0 .1; toggles = q .0 .0 .1; shorter = q .0 .1; first-ends = q .1 }),
       λ q. w .1 ((((q .plain, q .length), q .toggles), q .shorter), q .first-ends),
     )
 
@@ -294,8 +290,8 @@ pub says-shutter : (t : Tables) (f : Field) (s : Shutter) → Says (shutterRight
 unfolding shutterRight
 says-shutter t f s =
     let w =
-        says-where (says-true (s .present))
-        (says-and
-        (says-and (says-exists t f (s .«on_line») (s .«on_pixel»)) (says-exists t f (s .«off_line») (s .«off_pixel»)))
-        (says-before (s .«on_line») (s .«on_pixel») (s .«off_line») (s .«off_pixel»))) in
+    says-where (says-true (s .present))
+    (says-and
+    (says-and (says-exists t f (s .«on_line») (s .«on_pixel»)) (says-exists t f (s .«off_line») (s .«off_pixel»)))
+    (says-before (s .«on_line») (s .«on_pixel») (s .«off_line») (s .«off_pixel»))) in
     ((λ e h. let q = w .0 e h in (q .0 .0, q .0 .1, q .1)), λ q. w .1 (λ h. let z = q h in ((z .0, z .1), z .2)))

@@ -1,0 +1,378 @@
+-- A profile is accepted exactly where it is in range, has a field and obeys every rule; otherwise the verdict is that of the first entry, in the
+-- stated order, that does not hold. Each entry's test is reflected (Reflects), and the list is taken apart in its order (Entries).
+-- Assumes nothing.
+use Prim.Native.Nat.{ℕ, zero, suc, _+_, _-_, _≤_, _<_}
+use native.Mathlib.Nat.{add-sub-cancel}
+use native.Mathlib.Omega.{arith}
+use mathlib.Core.Path.{_≡_, refl, sym, ap, _∙_}
+use mathlib.Core.Logic.{_↔_, _⊎_, inl, inr}
+use mathlib.Core.Bool.{Bool, true, false, cond, not, _&&_, _||_, false≢true}
+use mathlib.Core.List.{List, [], _∷_, _++_, map}
+use lib.ListN.{getD}
+use lib.Dec.{ltb, eqb, lit≤}
+use borrow.Author.Tests.{ltb-true, eqb-true, lt-ltb, eq-eqb, ne-eqb}
+use Rattle.profile.specs.Lists.{all, chunks}
+use Rattle.profile.specs.Values.{accepted, refused, emptyGate, emptyShutter}
+use Rattle.profile.specs.Geometry.{regionCount, regionAt, firstLine, sequenceAt, patternAt, lineLength, regionSize, gateLines}
+use Rattle.profile.specs.Rules.{
+  Entry,
+  rule,
+  firstBroken,
+  startsRight,
+  togglesRight,
+  maskRight,
+  countsRight,
+  endsRight,
+  hasSecond,
+  secondOf,
+  secondRight,
+  orderEntries,
+  toggleEntries,
+  runEntries,
+  regionEntries,
+  lineEntries,
+  gateEntries,
+  subckEntries,
+  shutterEntries,
+  rulesOf,
+  judge,
+  checkProfile,
+}
+use Rattle.profile.specs.Ranges.{inRange}
+use Rattle.profile.specs.Obeys.{Rises, Masks, Counts, Ends, Seconds, Shuts, Obeys}
+use Rattle.profile.specs.declared.Mode.{Mode}
+use Rattle.profile.specs.declared.Tables.{Tables}
+use Rattle.profile.specs.declared.Field.{Field}
+use Rattle.profile.specs.declared.Profile.{Profile}
+use Rattle.profile.specs.declared.Verdict.{Verdict}
+use Rattle.profile.proofs.Laws.{by-cases, and-left, and-right, and-intro}
+use Rattle.profile.proofs.Entries.{
+  Numbered,
+  Hold,
+  entries-hold,
+  hold-accepted,
+  numbered-append,
+  fine-then,
+  fine-left,
+  fine-right,
+  numbered-chunks,
+  fine-chunk,
+  chunks-fine,
+}
+use Rattle.profile.proofs.Reflects.{
+  Says,
+  says-lt,
+  says-eq,
+  says-ne,
+  says-and,
+  says-where,
+  says-one,
+  says-toggles,
+  says-mask,
+  says-counts,
+  says-ends,
+  says-second,
+  says-gate,
+  says-subck,
+  says-shutter,
+}
+
+-- ---- the first entry that does not hold
+
+-- e is the first entry of the list that does not hold: those before it do
+pub record First (es : List Entry) (v : Verdict) : Type 0 where
+  pub before : List Entry
+  pub entry : Entry
+  pub after : List Entry
+  pub there : es ≡ before ++ entry ∷ after
+  pub hold : Hold before
+  pub broken : entry .holds ≡ false
+  pub named : v ≡ entry .verdict
+
+first-later : (e : Entry) (es : List Entry) (v : Verdict) → e .holds ≡ true → First es v → First (e ∷ es) v
+first-later e es v h f =
+    record {
+      before = e ∷ f .before;
+      entry = f .entry;
+      after = f .after;
+      there = ap (λ (l : List Entry). e ∷ l) (f .there);
+      hold = (h, f .hold);
+      broken = f .broken;
+      named = f .named;
+    }
+
+-- the verdict of a list: all hold and it accepts, or it is that of the first that does not hold
+pub first-broken : (es : List Entry) → (Hold es × (firstBroken es ≡ accepted)) ⊎ First es (firstBroken es)
+unfolding firstBroken
+first-broken [] = inl (tt, refl)
+first-broken (e ∷ es) = go (e .holds) refl (first-broken es)
+  where
+    go : (b : Bool) → e .holds ≡ b → (Hold es × (firstBroken es ≡ accepted)) ⊎ First es (firstBroken es)
+        → (Hold (e ∷ es) × (cond b (firstBroken es) (e .verdict) ≡ accepted)) ⊎ First (e ∷ es) (cond b (firstBroken es) (e .verdict))
+    go true h (inl w) = inl ((h, w .0), w .1)
+    go true h (inr f) = inr (first-later e es _ h f)
+    go false h w = inr (record { before = []; entry = e; after = es; there = refl; hold = tt; broken = h; named = refl })
+
+-- all entries of a profile in the stated order: 5, 6, then 7 to 17
+pub entriesOf : Profile → List Entry
+entriesOf p = rule 5 0 (inRange p) ∷ rule 6 0 (p .field .present) ∷ rulesOf (p .tables) (p .field)
+
+pub check-entries : (p : Profile) → checkProfile p ≡ firstBroken (entriesOf p)
+unfolding checkProfile judge firstBroken entriesOf
+check-entries p = refl
+
+-- ---- every entry has a number
+
+region-numbered : (t : Tables) (f : Field) (i : ℕ) → Numbered (regionEntries t f i)
+unfolding regionEntries
+region-numbered t f i = (
+  lit≤ tt,
+  (lit≤ tt, numbered-append (chunks 6 (toggleEntries t f i)) (runEntries t f i) (numbered-chunks 6 (toggleEntries t f i) (λ k. (lit≤ tt, tt))) (lit≤ tt, (lit≤ tt, (lit≤ tt, tt)))),
+)
+
+-- ---- each part of the list
+
+says-fine : (b : Bool) (A : Type 0) (v : Verdict) → 1 ≤ v .number → Says b A → (firstBroken (record { verdict = v; holds = b } ∷ []) ≡ accepted) ↔ A
+says-fine b A v n f = (
+  (λ e. f .0 (entries-hold (record { verdict = v; holds = b } ∷ []) (n, tt) e .0)),
+  λ w. hold-accepted (record { verdict = v; holds = b } ∷ []) (f .1 w, tt),
+)
+
+-- 7 at one region
+abbrev Starts : Field → ℕ → Type 0
+Starts f i = (firstLine f i < f .lines) × ((i ≡ 0 → firstLine f i ≡ 0) × ((i ≡ 0 → ⊥) → firstLine f (i - 1) < firstLine f i))
+
+says-starts : (f : Field) (i : ℕ) → Says (startsRight f i) (Starts f i)
+unfolding startsRight
+says-starts f i = says-and (says-lt (firstLine f i) (f .lines)) (by-place i)
+  where
+    by-place : (i : ℕ)
+        → Says (cond (eqb i 0) (eqb (firstLine f i) 0) (ltb (firstLine f (i - 1)) (firstLine f i)))
+        ((i ≡ 0 → firstLine f i ≡ 0) × ((i ≡ 0 → ⊥) → firstLine f (i - 1) < firstLine f i))
+    by-place zero = ((λ e. ((λ z. eqb-true _ _ e), λ n. absurd (n refl))), λ w. eq-eqb _ _ (w .0 refl))
+    by-place (suc i) =
+        let n : suc i ≡ 0 → ⊥ = omega arith in
+        rw (ne-eqb (suc i) 0 n)
+        ((λ e. ((λ z. absurd (n z)), λ m. ltb-true _ _ e)), λ w. lt-ltb _ _ (w .1 n))
+
+-- 8 to 13 at one region
+pub record RegionObeys (t : Tables) (f : Field) (i : ℕ) : Type 0 where
+  pub given : sequenceAt t f i .present ≡ true
+  pub length : patternAt t f i .length ≡ 0 → ⊥
+  pub toggles : (k : ℕ) → k < 6 → Rises (regionAt f i .mode) (patternAt t f i) k
+  pub masks : Masks (regionAt f i .mode) (sequenceAt t f i .mask) (patternAt t f i)
+  pub counts : Counts (regionAt f i .mode) (sequenceAt t f i) (patternAt t f i)
+  pub ends : Ends (regionAt f i .mode) (sequenceAt t f i) (patternAt t f i) (regionSize t f i)
+
+module _ (t : Tables) (f : Field) (i : ℕ) where
+  toggles-numbered : (k : ℕ) → Numbered (toggleEntries t f i k)
+  toggles-numbered k = (lit≤ tt, tt)
+
+  says-output : (k : ℕ) → (firstBroken (toggleEntries t f i k) ≡ accepted) ↔ Rises (regionAt f i .mode) (patternAt t f i) k
+  says-output k = says-fine _ _ (refused 10 i) (lit≤ tt) (says-toggles (regionAt f i .mode) (patternAt t f i) k)
+
+  region-says : (firstBroken (regionEntries t f i) ≡ accepted) ↔ RegionObeys t f i
+  unfolding regionEntries
+  region-says = (to, from)
+    where
+      m : Mode
+      m = regionAt f i .mode
+
+      out : List Entry
+      out = chunks 6 (toggleEntries t f i)
+
+      numbered : Numbered out
+      numbered = numbered-chunks 6 (toggleEntries t f i) toggles-numbered
+
+      nonzero : Says (not (eqb (patternAt t f i .length) 0)) (patternAt t f i .length ≡ 0 → ⊥)
+      nonzero = says-ne (patternAt t f i .length) 0
+
+      mask : Says (maskRight m (sequenceAt t f i .mask) (patternAt t f i)) (Masks m (sequenceAt t f i .mask) (patternAt t f i))
+      mask = says-mask m (sequenceAt t f i .mask) (patternAt t f i)
+
+      count : Says (countsRight m (sequenceAt t f i) (patternAt t f i)) (Counts m (sequenceAt t f i) (patternAt t f i))
+      count = says-counts m (sequenceAt t f i) (patternAt t f i)
+
+      end : Says (endsRight m (sequenceAt t f i) (patternAt t f i) (regionSize t f i)) (Ends m (sequenceAt t f i) (patternAt t f i) (regionSize t f i))
+      end = says-ends m (sequenceAt t f i) (patternAt t f i) (regionSize t f i)
+
+      two : List Entry
+      two = rule 8 i (sequenceAt t f i .present) ∷ rule 9 i (not (eqb (patternAt t f i .length) 0)) ∷ []
+
+      to : firstBroken (regionEntries t f i) ≡ accepted → RegionObeys t f i
+      to e =
+          let a = fine-left two (out ++ runEntries t f i) (lit≤ tt, (lit≤ tt, tt)) e in
+          let b = fine-right two (out ++ runEntries t f i) (lit≤ tt, (lit≤ tt, tt)) e in
+          let h = entries-hold two (lit≤ tt, (lit≤ tt, tt)) a in
+          let g = entries-hold (runEntries t f i) (lit≤ tt, (lit≤ tt, (lit≤ tt, tt))) (fine-right out (runEntries t f i) numbered b) in
+          record {
+            given = h .0;
+            length = nonzero .0 (h .1 .0);
+            toggles = λ k l. says-output k .0 (fine-chunk 6 (toggleEntries t f i) toggles-numbered (fine-left out (runEntries t f i) numbered b) k l);
+            masks = mask .0 (g .0);
+            counts = count .0 (g .1 .0);
+            ends = end .0 (g .1 .1 .0);
+          }
+
+      from : RegionObeys t f i → firstBroken (regionEntries t f i) ≡ accepted
+      from o =
+          fine-then two (out ++ runEntries t f i) (lit≤ tt, (lit≤ tt, tt)) (hold-accepted two (o .given, (nonzero .1 (o .length), tt)))
+          ∙ fine-then out (runEntries t f i) numbered
+          (chunks-fine 6 (toggleEntries t f i) toggles-numbered (λ k l. says-output k .1 (o .toggles k l)))
+          ∙ hold-accepted (runEntries t f i) (mask .1 (o .masks), (count .1 (o .counts), (end .1 (o .ends), tt)))
+
+-- 14
+module _ (t : Tables) (f : Field) where
+  gate-line-says : Says (all (map (λ (g : ℕ). ltb g (f .lines)) (gateLines f))) (f .gate < f .lines)
+  gate-line-says = says-one (says-lt (f .gate) (f .lines))
+
+  second-says :
+      Says (not (hasSecond f) || all (map (secondRight t f (secondOf t f)) (gateLines f)))
+      ((f .second ≡ 65535 → ⊥) → Seconds t f (secondOf t f) (f .gate))
+  second-says = says-where (says-ne (f .second) 65535) (says-one (says-second t f (secondOf t f) (f .gate)))
+
+  lines-say :
+      (firstBroken (lineEntries t f) ≡ accepted)
+      ↔ ((f .gate < f .lines) × ((f .second ≡ 65535 → ⊥) → Seconds t f (secondOf t f) (f .gate)))
+  unfolding lineEntries
+  lines-say = (
+    (λ e.
+        let h = entries-hold (lineEntries t f) (lit≤ tt, (lit≤ tt, tt)) e in
+        (gate-line-says .0 (h .0), second-says .0 (h .1 .0))),
+    λ w. hold-accepted (lineEntries t f) (gate-line-says .1 (w .0), (second-says .1 (w .1), tt)),
+  )
+
+-- ---- the whole list
+
+fine-both : (a b : List Entry) → Numbered a → (firstBroken (a ++ b) ≡ accepted) ↔ ((firstBroken a ≡ accepted) × (firstBroken b ≡ accepted))
+fine-both a b n = ((λ e. (fine-left a b n e, fine-right a b n e)), λ w. fine-then a b n (w .0) ∙ w .1)
+
+fine-each : (n : ℕ) (f : ℕ → List Entry) (A : ℕ → Type 0) → ((i : ℕ) → Numbered (f i)) → ((i : ℕ) → (firstBroken (f i) ≡ accepted) ↔ A i)
+    → (firstBroken (chunks n f) ≡ accepted) ↔ ((i : ℕ) → i < n → A i)
+fine-each n f A m s = ((λ e i h. s i .0 (fine-chunk n f m e i h)), λ w. chunks-fine n f m (λ i h. s i .1 (w i h)))
+
+module _ (t : Tables) (f : Field) where
+  abbrev order : List Entry
+  order = chunks (regionCount f) (orderEntries f)
+
+  abbrev regions : List Entry
+  regions = chunks (regionCount f) (regionEntries t f)
+
+  abbrev gates : List Entry
+  gates = chunks 5 (gateEntries t f)
+
+  abbrev shutters : List Entry
+  shutters = chunks 2 (shutterEntries t f)
+
+  order-numbered : Numbered order
+  order-numbered = numbered-chunks (regionCount f) (orderEntries f) (λ i. (lit≤ tt, tt))
+
+  regions-numbered : Numbered (order ++ regions)
+  regions-numbered = numbered-append order regions order-numbered (numbered-chunks (regionCount f) (regionEntries t f) (region-numbered t f))
+
+  lines-numbered : Numbered (order ++ regions ++ lineEntries t f)
+  unfolding lineEntries
+  lines-numbered = numbered-append (order ++ regions) (lineEntries t f) regions-numbered (lit≤ tt, (lit≤ tt, tt))
+
+  gates-numbered : Numbered (order ++ regions ++ lineEntries t f ++ gates)
+  gates-numbered =
+      numbered-append (order ++ regions ++ lineEntries t f) gates lines-numbered (numbered-chunks 5 (gateEntries t f) (λ i. (lit≤ tt, tt)))
+
+  subck-numbered : Numbered (order ++ regions ++ lineEntries t f ++ gates ++ subckEntries t)
+  subck-numbered = numbered-append (order ++ regions ++ lineEntries t f ++ gates) (subckEntries t) gates-numbered (lit≤ tt, tt)
+
+  order-says : (firstBroken order ≡ accepted) ↔ ((i : ℕ) → i < regionCount f → Starts f i)
+  order-says =
+      fine-each (regionCount f) (orderEntries f) (λ i. Starts f i) (λ i. (lit≤ tt, tt))
+      (λ i. says-fine _ _ (refused 7 i) (lit≤ tt) (says-starts f i))
+
+  regions-say : (firstBroken regions ≡ accepted) ↔ ((i : ℕ) → i < regionCount f → RegionObeys t f i)
+  regions-say = fine-each (regionCount f) (regionEntries t f) (λ i. RegionObeys t f i) (region-numbered t f) (region-says t f)
+
+  abbrev GateObeys : ℕ → Type 0
+  GateObeys k =
+      getD (t .gates) k emptyGate .present ≡ true → getD (t .gates) k emptyGate .on ≡ 1
+      → (getD (t .gates) k emptyGate .toggle1 < getD (t .gates) k emptyGate .toggle2)
+      × (getD (t .gates) k emptyGate .toggle2 < lineLength t f (f .gate))
+
+  gates-say : (firstBroken gates ≡ accepted) ↔ ((k : ℕ) → k < 5 → GateObeys k)
+  gates-say =
+      fine-each 5 (gateEntries t f) (λ k. GateObeys k) (λ i. (lit≤ tt, tt))
+      (λ k. says-fine _ _ (refused 15 k) (lit≤ tt) (says-one (says-gate (getD (t .gates) k emptyGate) (lineLength t f (f .gate)))))
+
+  subck-says : (firstBroken (subckEntries t) ≡ accepted) ↔ (t .subck .present ≡ true → (t .subck .toggle1 < t .subck .toggle2) × (1 ≤ t .subck .suppressed))
+  subck-says = says-fine _ _ (refused 16 0) (lit≤ tt) (says-subck (t .subck))
+
+  abbrev ShutterObeys : ℕ → Type 0
+  ShutterObeys k = getD (t .shutters) k emptyShutter .present ≡ true → Shuts t f (getD (t .shutters) k emptyShutter)
+
+  shutters-say : (firstBroken shutters ≡ accepted) ↔ ((k : ℕ) → k < 2 → ShutterObeys k)
+  shutters-say =
+      fine-each 2 (shutterEntries t f) (λ k. ShutterObeys k) (λ i. (lit≤ tt, tt))
+      (λ k. says-fine _ _ (refused 17 k) (lit≤ tt) (says-shutter t f (getD (t .shutters) k emptyShutter)))
+
+  rules-obeyed : firstBroken (rulesOf t f) ≡ accepted → Obeys t f
+  unfolding rulesOf
+  rules-obeyed e =
+      let e5 = fine-both (order ++ regions ++ lineEntries t f ++ gates ++ subckEntries t) shutters subck-numbered .0 e in
+      let e4 = fine-both (order ++ regions ++ lineEntries t f ++ gates) (subckEntries t) gates-numbered .0 (e5 .0) in
+      let e3 = fine-both (order ++ regions ++ lineEntries t f) gates lines-numbered .0 (e4 .0) in
+      let e2 = fine-both (order ++ regions) (lineEntries t f) regions-numbered .0 (e3 .0) in
+      let e1 = fine-both order regions order-numbered .0 (e2 .0) in
+      let o = order-says .0 (e1 .0) in
+      let r = regions-say .0 (e1 .1) in
+      let g = lines-say t f .0 (e2 .1) in
+      record {
+        rule-7-first = λ h. o 0 h .1 .0 refl;
+        rule-7-rise = λ i h. rw (add-sub-cancel i 1) at (o (i + 1) h .1 .1 (omega arith));
+        rule-7-below = λ i h. o i h .0;
+        rule-8 = λ i h. r i h .given;
+        rule-9 = λ i h. r i h .length;
+        rule-10 = λ i k h l. r i h .toggles k l;
+        rule-11 = λ i h. r i h .masks;
+        rule-12 = λ i h. r i h .counts;
+        rule-13 = λ i h. r i h .ends;
+        rule-14-gate = g .0;
+        rule-14-second = g .1;
+        rule-15 = gates-say .0 (e3 .1);
+        rule-16 = subck-says .0 (e4 .1);
+        rule-17 = shutters-say .0 (e5 .1);
+      }
+
+  module _ (o : Obeys t f) where
+    starts : (i : ℕ) → i < regionCount f → Starts f i
+    starts i h = (o .rule-7-below i h, ((λ z. rw z (o .rule-7-first (omega arith))), rise i h))
+      where
+        rise : (i : ℕ) → i < regionCount f → (i ≡ 0 → ⊥) → firstLine f (i - 1) < firstLine f i
+        rise zero l n = absurd (n refl)
+        rise (suc i) l n =
+            let e : suc i ≡ i + 1 = omega arith in
+            let d : i + 1 - 1 ≡ i = omega arith in
+            rw (e, d) (o .rule-7-rise i (omega arith))
+
+    region-obeys : (i : ℕ) → i < regionCount f → RegionObeys t f i
+    region-obeys i h =
+        record {
+          given = o .rule-8 i h;
+          length = o .rule-9 i h;
+          toggles = λ k l. o .rule-10 i k h l;
+          masks = o .rule-11 i h;
+          counts = o .rule-12 i h;
+          ends = o .rule-13 i h;
+        }
+
+    obeyed-rules : firstBroken (rulesOf t f) ≡ accepted
+    unfolding rulesOf
+    obeyed-rules =
+        fine-then (order ++ regions ++ lineEntries t f ++ gates ++ subckEntries t) shutters subck-numbered
+        (fine-then (order ++ regions ++ lineEntries t f ++ gates) (subckEntries t) gates-numbered
+        (fine-then (order ++ regions ++ lineEntries t f) gates lines-numbered
+        (fine-then (order ++ regions) (lineEntries t f) regions-numbered
+        (fine-then order regions order-numbered (order-says .1 starts) ∙ regions-say .1 region-obeys)
+        ∙ lines-say t f .1 (o .rule-14-gate, o .rule-14-second))
+        ∙ gates-say .1 (o .rule-15))
+        ∙ subck-says .1 (o .rule-16))
+        ∙ shutters-say .1 (o .rule-17)
+
+  pub rules-say : (firstBroken (rulesOf t f) ≡ accepted) ↔ Obeys t f
+  rules-say = (rules-obeyed, obeyed-rules)
