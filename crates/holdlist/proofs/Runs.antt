@@ -4,12 +4,14 @@
 use Prim.Native.Nat.{ℕ, zero, suc, _+_, _-_, _≤_, _<_, _^_}
 use native.Mathlib.Omega.{arith}
 use native.Mathlib.Nat.{sub-zero, suc-sub-suc}
-use mathlib.Core.Path.{_≡_, refl, sym, ap}
-use mathlib.Core.List.{List, [], _∷_, _++_, append-assoc, append-nil, map}
-use mathlib.Core.Bool.{Bool, true, false, cond}
-use lib.ListN.{length, getD, replicate, length-append, length-replicate, List·getD-eq-default, List·getD-map}
+use mathlib.Core.Path.{_≡_, refl, ap, _∙_}
+use mathlib.Core.List.{List, [], _∷_, _++_, append-assoc, append-nil}
+use mathlib.Core.Bool.{cond}
+use lib.ListN.{length, getD, drop, replicate, length-append, length-replicate, List·getD-eq-default, List·getD-map}
+use lib.Seq.{drop-at}
 use lib.Dec.{eqb, ltb, leb·suc-suc}
 use borrow.Author.Tests.{lt-ltb, le-ltb, eq-eqb, ne-eqb, eqb-true}
+use Rattle.profile.specs.Lists.{over}
 use Rattle.profile.proofs.Laws.{cond-case, by-cases}
 use Rattle.holdlist.specs.declared.Step.{Step}
 use Rattle.holdlist.specs.Play.{walk, expand, shown}
@@ -35,6 +37,10 @@ each-at P (x ∷ xs) d a z (suc i) = each-at P xs d (a .1) z i
 replicate-snoc : (n w : ℕ) → replicate (suc n) w ≡ replicate n w ++ (w ∷ [])
 replicate-snoc zero w = refl
 replicate-snoc (suc n) w = ap {B = List ℕ} (λ r. w ∷ r) (replicate-snoc n w)
+
+-- what is past the new elements
+pub over-rest : {A : Type 0} (new old : List A) (n : ℕ) → length new ≡ n → drop n (over new old) ≡ drop n old
+over-rest {A} new old n e = drop-at new (drop (length new) old) n e ∙ ap (λ (k : ℕ). drop k old) e
 
 -- ---- walking is reading the expansion
 
