@@ -1,1 +1,5 @@
 pub mod Cases
+pub mod Playing
+pub mod Runs
+pub mod Shortest
+pub mod Demanded

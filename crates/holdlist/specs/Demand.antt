@@ -37,6 +37,8 @@ pub record Demand (t : Tables) (f : Field) (cs ws : List ℕ) (r : Compiled) (cs
   -- "no list that plays so is shorter"
   pub fewest : r .verdict .number ≡ 0 → Fewest t f (r .steps)
   pub pixels : r .verdict .number ≡ 0 → r .pixels ≡ pixelCount t f
+  -- there is such a number of steps, so that 0 or 18 is answered
+  pub there : (k : ℕ) × Fewest t f k
   -- "18 exactly when there is room for fewer, with that number"
   pub refuses : (k : ℕ) → Fewest t f k → (r .verdict .number ≡ 18) ↔ (min (length cs) (length ws) < k)
   pub accepts : (k : ℕ) → Fewest t f k → (r .verdict .number ≡ 0) ↔ (k ≤ min (length cs) (length ws))

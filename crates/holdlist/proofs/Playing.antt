@@ -1,0 +1,60 @@
+-- Playing a list: 20 before all else, then walking its first steps. What a player of a list of words shows, and that it tells the words.
+-- By computing the tests, and by recursion on the words.
+-- Assumes nothing.
+use Prim.Native.Nat.{ℕ, zero, suc, _≤_, _<_}
+use native.Mathlib.Omega.{arith}
+use mathlib.Core.Path.{_≡_, refl, sym, ap}
+use mathlib.Core.List.{List, [], _∷_}
+use lib.ListN.{length, getD, take}
+use borrow.Author.Tests.{le-leb, lt-leb}
+use Rattle.holdlist.specs.declared.Played.{Played}
+use Rattle.holdlist.specs.Play.{walk, playAnswer, shown, notShown}
+
+-- ---- 20, and what is played otherwise
+
+module _ (cs ws : List ℕ) (used n : ℕ) where
+  pub play-no-counts : length cs < used → notShown 20 ≡ playAnswer cs ws used n
+  unfolding playAnswer
+  play-no-counts h = rw (lt-leb used (length cs) h)
+
+  pub play-no-words : used ≤ length cs → length ws < used → notShown 20 ≡ playAnswer cs ws used n
+  unfolding playAnswer
+  play-no-words k h = rw (le-leb used (length cs) k, lt-leb used (length ws) h)
+
+  pub play-walk : used ≤ length cs → used ≤ length ws → playAnswer cs ws used n ≡ walk (take used cs) (take used ws) n
+  unfolding playAnswer
+  play-walk k h = rw (le-leb used (length cs) k, le-leb used (length ws) h)
+
+-- ---- a player of words
+
+-- what a player of the words xs shows at position n
+unfoldable pub showing : List ℕ → ℕ → Played
+showing [] n = notShown 19
+showing (x ∷ xs) zero = shown x
+showing (x ∷ xs) (suc n) = showing xs n
+
+pub showing-below : (xs : List ℕ) (n : ℕ) → n < length xs → showing xs n ≡ shown (getD xs n 0)
+unfolding showing
+showing-below [] n h = absurd (omega arith)
+showing-below (x ∷ xs) zero h = refl
+showing-below (x ∷ xs) (suc n) h = showing-below xs n (omega arith)
+
+pub showing-past : (xs : List ℕ) (n : ℕ) → length xs ≤ n → showing xs n ≡ notShown 19
+unfolding showing
+showing-past [] n h = refl
+showing-past (x ∷ xs) zero h = absurd (omega arith)
+showing-past (x ∷ xs) (suc n) h = showing-past xs n (omega arith)
+
+-- answers with different numbers differ
+pub differ : (i j : ℕ) (p q : Played) → p .verdict .number ≡ i → q .verdict .number ≡ j → i < j → p ≡ q → ⊥
+differ i j p q a b h e = let t : p .verdict .number ≡ q .verdict .number = ap (λ (r : Played). r .verdict .number) e in omega arith
+
+-- what is shown at every position tells the words
+pub showing-ext : (xs ys : List ℕ) → ((n : ℕ) → showing xs n ≡ showing ys n) → xs ≡ ys
+unfolding showing
+showing-ext [] [] e = refl
+showing-ext [] (y ∷ ys) e = absurd (differ 0 19 (shown y) (notShown 19) refl refl (omega arith) (sym (e 0)))
+showing-ext (x ∷ xs) [] e = absurd (differ 0 19 (shown x) (notShown 19) refl refl (omega arith) (e 0))
+showing-ext (x ∷ xs) (y ∷ ys) e =
+    let t : x ≡ y = ap (λ (r : Played). r .word) (e 0) in
+    rw (t, showing-ext xs ys (λ n. e (suc n)))
