@@ -263,14 +263,21 @@ sum-upto g a b h =
     let e : a + (b - a) ≡ b = omega arith in
     omega (arith, sum-add g 0 a (b - a), ap (λ (k : ℕ). sum g 0 k) e, ap (λ (k : ℕ). sum g k (b - a)) (zero-add a))
 
+-- counted from 0
+pub sum-shift : (g : ℕ → ℕ) (a n : ℕ) → sum g a n ≡ sum (λ k. g (a + k)) 0 n
+unfolding sum
+sum-shift g a zero = refl
+sum-shift g a (suc n) = rw (sum-shift g a n, zero-add n)
+
 module _ (start end : ℕ → ℕ) (zeroth : start 0 ≡ 0) where
   pub chunks-parts : {A : Type 0} (g : ℕ → List A) (n : ℕ) → ((i : ℕ) → i ≤ n → start i ≤ end i)
       → ((i : ℕ) → i < n → end i ≡ start (i + 1))
       → chunks (n + 1) (λ i. chunks (end i - start i) (λ k. g (start i + k))) ≡ chunks (end n) g
   unfolding chunks
-  chunks-parts {A} g zero up next =
-      ap (λ (a : ℕ). chunks a g ++ chunks (end 0 - start 0) (λ k. g (start 0 + k))) (sym zeroth) ∙ chunks-upto (start 0) (end 0) g (up 0 (omega arith))
-  chunks-parts {A} g (suc n) up next =
+  chunks-parts g zero up next =
+      ap (λ (a : ℕ). chunks a g ++ chunks (end 0 - start 0) (λ k. g (start 0 + k))) (sym zeroth)
+      ∙ chunks-upto (start 0) (end 0) g (up 0 (omega arith))
+  chunks-parts g (suc n) up next =
       let before = rw add-one at (chunks-parts g n (λ i l. up i (omega arith)) (λ i l. next i (omega arith))) in
       let e : end n ≡ start (suc n) = rw add-one at (next n (omega arith)) in
       rw (add-one, chunks, before, e) (chunks-upto (start (suc n)) (end (suc n)) g (up (suc n) (omega arith)))

@@ -1,11 +1,11 @@
 -- Regions, lines and their lengths: sums of line lengths as products for every field, regions that rule 7 orders as one run of lines, and
 -- how much a profile in range can have. Line lengths of a region are alike but for the field's last line, and starts that rise part the lines.
 -- Assumes nothing.
-use mathlib.Core.Path.{_≡_, sym, ap, _∙_}
+use mathlib.Core.Path.{_≡_, refl, sym, ap, _∙_}
 use mathlib.Core.Bool.{Bool, true, cond, _&&_}
 use mathlib.Core.List.{List, [], _∷_}
 use Prim.Native.Nat.{ℕ, zero, suc, _+_, _*_, _-_, _≤_, _<_}
-use native.Mathlib.Nat.{le-trans}
+use native.Mathlib.Nat.{zero-add, le-trans}
 use native.Mathlib.Numerals.{add-one}
 use native.Mathlib.Omega.{arith}
 use borrow.Author.Tests.{ltb-true, ltb-false, leb-true, leb-false, eqb-true, eqb-false, lt-ltb, le-ltb, eq-eqb, ne-eqb}
@@ -16,6 +16,7 @@ use Rattle.profile.proofs.Laws.{
   by-cases,
   and-left,
   and-right,
+  and-intro,
   Passed,
   passed,
   all-chunks,
@@ -23,6 +24,8 @@ use Rattle.profile.proofs.Laws.{
   sum-ext,
   sum-same,
   sum-le,
+  sum-more,
+  sum-below,
   sum-but-one,
   sum-upto,
   sum-parts,
@@ -47,6 +50,7 @@ use Rattle.profile.specs.Geometry.{
   regionSize,
   pixelsBefore,
   pixelCount,
+  hasPixel,
 }
 use Rattle.profile.specs.Values.{emptyGate, emptyShutter}
 use Rattle.profile.specs.Ranges.{
@@ -129,6 +133,50 @@ module _ (t : Tables) (f : Field) (i : ℕ) where
   -- before a line that the field has
   pub origin-product : (line : ℕ) → line < f .lines → regionPixels t f i line ≡ (line - firstLine f i) * sequenceAt t f i .length
   origin-product line h = pixels-inner line (λ k l u q. omega arith)
+
+-- ---- the pixels before a line, and the places that there are
+
+module _ (t : Tables) (f : Field) where
+  pub before-none : pixelsBefore t f 0 ≡ 0
+  unfolding pixelsBefore sum
+  before-none = refl
+
+  pub before-more : (line : ℕ) → pixelsBefore t f (line + 1) ≡ pixelsBefore t f line + lineLength t f line
+  unfolding pixelsBefore
+  before-more line = sum-more (lineLength t f) 0 line ∙ ap (λ (k : ℕ). sum (lineLength t f) 0 line + lineLength t f k) (zero-add line)
+
+  pub before-all : pixelsBefore t f (f .lines) ≡ pixelCount t f
+  unfolding pixelCount
+  before-all = refl
+
+  -- a field that has a pixel has a line
+  pub pixels-lines : 0 < pixelCount t f → 0 < f .lines
+  pixels-lines h =
+      by-cases (ltb 0 (f .lines))
+      (λ e. ltb-true 0 (f .lines) e)
+      (λ e.
+      let none : f .lines ≡ 0 = omega (arith, ltb-false 0 (f .lines) e) in
+      absurd (omega (arith, ap (pixelsBefore t f) none, before-none, before-all)))
+
+  pub before-below : (a b : ℕ) → a ≤ b → pixelsBefore t f a ≤ pixelsBefore t f b
+  unfolding pixelsBefore
+  before-below a b h = sum-below (lineLength t f) 0 a b h
+
+  -- a line's pixels lie before those of a later line
+  pub before-later : (a b : ℕ) → a < b → pixelsBefore t f a + lineLength t f a ≤ pixelsBefore t f b
+  before-later a b h = omega (arith, before-more a, before-below (a + 1) b (omega arith))
+
+  pub has-line : (line pixel : ℕ) → hasPixel t f line pixel ≡ true → line < f .lines
+  unfolding hasPixel
+  has-line line pixel e = ltb-true line (f .lines) (and-left (ltb line (f .lines)) _ e)
+
+  pub has-pixel : (line pixel : ℕ) → hasPixel t f line pixel ≡ true → pixel < lineLength t f line
+  unfolding hasPixel
+  has-pixel line pixel e = ltb-true pixel (lineLength t f line) (and-right (ltb line (f .lines)) _ e)
+
+  pub has-both : (line pixel : ℕ) → line < f .lines → pixel < lineLength t f line → hasPixel t f line pixel ≡ true
+  unfolding hasPixel
+  has-both line pixel a b = and-intro (lt-ltb line (f .lines) a) (lt-ltb pixel (lineLength t f line) b)
 
 -- ---- where regions end
 
