@@ -293,7 +293,7 @@ module _ (start end : ℕ → ℕ) (zeroth : start 0 ≡ 0) where
       let e : end n ≡ start (suc n) = rw add-one at (next n (omega arith)) in
       rw (add-one, sum, zero-add (suc n), before, e) (sum-upto g (start (suc n)) (end (suc n)) (up (suc n) (omega arith)))
 
--- every number c, but that of m is d
+-- every number is c, but that of m
 pub sum-but-one : (g : ℕ → ℕ) (a n c m : ℕ) → a ≤ m → m < a + n
     → ((i : ℕ) → a ≤ i → i < a + n → (i ≡ m → ⊥) → g i ≡ c) → sum g a n ≡ (n - 1) * c + g m
 sum-but-one g a n c m l u e =
