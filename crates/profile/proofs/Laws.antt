@@ -5,7 +5,7 @@ use mathlib.Core.Bool.{Bool, true, false, cond, not, _&&_, _||_, false≢true}
 use mathlib.Core.Logic.{_⊎_, inl, inr}
 use mathlib.Core.List.{List, [], _∷_, _++_, append-assoc, append-nil}
 use Prim.Native.Nat.{ℕ, zero, suc, _+_, _*_, _-_, _≤_, _<_, zero-le}
-use native.Mathlib.Nat.{add-zero, zero-add, add-suc, suc-add, add-assoc, zero-mul, suc-mul, le-refl}
+use native.Mathlib.Nat.{add-zero, zero-add, add-suc, suc-add, add-assoc, zero-mul, suc-mul, add-mul, le-refl}
 use native.Mathlib.Numerals.{add-one}
 use native.Mathlib.Omega.{arith}
 use borrow.Author.Tests.{leb-true, leb-false, le-leb, lt-leb, eqb-true, eqb-false}
@@ -249,3 +249,65 @@ last-next start (suc n) x i h l =
     by-cases (eqb i n)
     (λ q. rw (eqb-true i n q) (leb-false (start n) x e))
     (λ q. last-next start n x i (rw e at h) (omega (arith, eqb-false i n q))))
+
+-- ---- chunks and sums in parts that follow one another from 0, and sums of numbers alike but for one
+
+-- the first a chunks, then those up to b
+pub chunks-upto : {A : Type 0} (a b : ℕ) (g : ℕ → List A) → a ≤ b → chunks a g ++ chunks (b - a) (λ k. g (a + k)) ≡ chunks b g
+chunks-upto a b g h =
+    let e : a + (b - a) ≡ b = omega arith in
+    sym (chunks-add a (b - a) g) ∙ ap (λ (k : ℕ). chunks k g) e
+
+pub sum-upto : (g : ℕ → ℕ) (a b : ℕ) → a ≤ b → sum g 0 a + sum g a (b - a) ≡ sum g 0 b
+sum-upto g a b h =
+    let e : a + (b - a) ≡ b = omega arith in
+    omega (arith, sum-add g 0 a (b - a), ap (λ (k : ℕ). sum g 0 k) e, ap (λ (k : ℕ). sum g k (b - a)) (zero-add a))
+
+-- counted from 0
+pub sum-shift : (g : ℕ → ℕ) (a n : ℕ) → sum g a n ≡ sum (λ k. g (a + k)) 0 n
+unfolding sum
+sum-shift g a zero = refl
+sum-shift g a (suc n) = rw (sum-shift g a n, zero-add n)
+
+module _ (start end : ℕ → ℕ) (zeroth : start 0 ≡ 0) where
+  pub chunks-parts : {A : Type 0} (g : ℕ → List A) (n : ℕ) → ((i : ℕ) → i ≤ n → start i ≤ end i)
+      → ((i : ℕ) → i < n → end i ≡ start (i + 1))
+      → chunks (n + 1) (λ i. chunks (end i - start i) (λ k. g (start i + k))) ≡ chunks (end n) g
+  unfolding chunks
+  chunks-parts g zero up next =
+      ap (λ (a : ℕ). chunks a g ++ chunks (end 0 - start 0) (λ k. g (start 0 + k))) (sym zeroth)
+      ∙ chunks-upto (start 0) (end 0) g (up 0 (omega arith))
+  chunks-parts g (suc n) up next =
+      let before = rw add-one at (chunks-parts g n (λ i l. up i (omega arith)) (λ i l. next i (omega arith))) in
+      let e : end n ≡ start (suc n) = rw add-one at (next n (omega arith)) in
+      rw (add-one, chunks, before, e) (chunks-upto (start (suc n)) (end (suc n)) g (up (suc n) (omega arith)))
+
+  pub sum-parts : (g : ℕ → ℕ) (n : ℕ) → ((i : ℕ) → i ≤ n → start i ≤ end i)
+      → ((i : ℕ) → i < n → end i ≡ start (i + 1))
+      → sum (λ i. sum g (start i) (end i - start i)) 0 (n + 1) ≡ sum g 0 (end n)
+  unfolding sum
+  sum-parts g zero up next =
+      ap (λ (a : ℕ). sum g 0 a + sum g (start 0) (end 0 - start 0)) (sym zeroth) ∙ sum-upto g (start 0) (end 0) (up 0 (omega arith))
+  sum-parts g (suc n) up next =
+      let before = rw add-one at (sum-parts g n (λ i l. up i (omega arith)) (λ i l. next i (omega arith))) in
+      let e : end n ≡ start (suc n) = rw add-one at (next n (omega arith)) in
+      rw (add-one, sum, zero-add (suc n), before, e) (sum-upto g (start (suc n)) (end (suc n)) (up (suc n) (omega arith)))
+
+-- every number is c, but that of m
+pub sum-but-one : (g : ℕ → ℕ) (a n c m : ℕ) → a ≤ m → m < a + n
+    → ((i : ℕ) → a ≤ i → i < a + n → (i ≡ m → ⊥) → g i ≡ c) → sum g a n ≡ (n - 1) * c + g m
+sum-but-one g a n c m l u e =
+    let p : (m - a) + 1 + (n - (m - a) - 1) ≡ n = omega arith in
+    let q : (m - a) + (n - (m - a) - 1) ≡ n - 1 = omega arith in
+    let front = sum-same g a (m - a) c (λ i v w. e i v (omega arith) (omega arith)) in
+    let back = sum-same g (a + ((m - a) + 1)) (n - (m - a) - 1) c (λ i v w. e i (omega arith) (omega arith) (omega arith)) in
+    let r : a + (m - a) ≡ m = omega arith in
+    omega (
+      arith,
+      ap (λ (k : ℕ). sum g a k) p,
+      sum-add g a ((m - a) + 1) (n - (m - a) - 1),
+      sum-more g a (m - a),
+      ap g r,
+      ap (λ (k : ℕ). k * c) q,
+      add-mul (m - a) (n - (m - a) - 1) c,
+    )

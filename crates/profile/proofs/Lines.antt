@@ -1,0 +1,443 @@
+-- Regions, lines and their lengths: sums of line lengths as products for every field, regions that rule 7 orders as one run of lines, and
+-- how much a profile in range can have. Line lengths of a region are alike but for the field's last line, and starts that rise part the lines.
+-- Assumes nothing.
+use mathlib.Core.Path.{_≡_, refl, sym, ap, _∙_}
+use mathlib.Core.Bool.{Bool, true, cond, _&&_}
+use mathlib.Core.List.{List, [], _∷_}
+use Prim.Native.Nat.{ℕ, zero, suc, _+_, _*_, _-_, _≤_, _<_}
+use native.Mathlib.Nat.{zero-add, le-trans}
+use native.Mathlib.Numerals.{add-one}
+use native.Mathlib.Omega.{arith}
+use borrow.Author.Tests.{ltb-true, ltb-false, leb-true, leb-false, eqb-true, eqb-false, lt-ltb, le-ltb, eq-eqb, ne-eqb}
+use lib.Dec.{ltb, leb, eqb}
+use lib.ListN.{getD}
+use Rattle.profile.proofs.Laws.{
+  cond-case,
+  by-cases,
+  and-left,
+  and-right,
+  and-intro,
+  Passed,
+  passed,
+  all-chunks,
+  all-one,
+  sum-ext,
+  sum-same,
+  sum-le,
+  sum-more,
+  sum-below,
+  sum-but-one,
+  sum-upto,
+  sum-parts,
+  chunks-parts,
+  last-below,
+  last-is,
+  last-starts,
+  last-next,
+}
+use Rattle.profile.specs.Lists.{all, chunks, sum, lastStart}
+use Rattle.profile.specs.Geometry.{
+  regionCount,
+  regionAt,
+  firstLine,
+  endLine,
+  regionOf,
+  sequenceOf,
+  sequenceAt,
+  lengthIn,
+  lineLength,
+  regionPixels,
+  regionSize,
+  pixelsBefore,
+  pixelCount,
+  hasPixel,
+}
+use Rattle.profile.specs.Values.{emptyGate, emptyShutter}
+use Rattle.profile.specs.Ranges.{
+  halfLimit,
+  sequenceRange,
+  fieldRange,
+  regionRange,
+  sequenceIn,
+  regionIn,
+  fieldIn,
+  gateIn,
+  subckIn,
+  shutterIn,
+  halfTests,
+  sequenceTests,
+  regionTests,
+  gateTests,
+  shutterTests,
+  zeros,
+  inRange,
+}
+use Rattle.profile.specs.Rules.{startsRight}
+use Rattle.profile.specs.declared.Sequence.{Sequence}
+use Rattle.profile.specs.declared.Field.{Field}
+use Rattle.profile.specs.declared.Tables.{Tables}
+use Rattle.profile.specs.declared.Profile.{Profile}
+
+-- ---- a line's length, and the pixels of a region's lines as a product
+
+module _ (t : Tables) (f : Field) (i : ℕ) where
+  pub length-last : (line : ℕ) → line + 1 ≡ f .lines → lengthIn t f i line ≡ f .last
+  unfolding lengthIn
+  length-last line e = rw (eq-eqb (line + 1) (f .lines) e)
+
+  pub length-inner : (line : ℕ) → (line + 1 ≡ f .lines → ⊥) → lengthIn t f i line ≡ sequenceAt t f i .length
+  unfolding lengthIn
+  length-inner line n = rw (ne-eqb (line + 1) (f .lines) n)
+
+  pub length-bound : (c line : ℕ) → sequenceAt t f i .length ≤ c → f .last ≤ c → lengthIn t f i line ≤ c
+  unfolding lengthIn
+  length-bound c line a b =
+      cond-case (λ n. n ≤ c) (eqb (line + 1) (f .lines)) (f .last) (sequenceAt t f i .length) (λ q. b) (λ q. a)
+
+  pub pixels-bound : (c line : ℕ) → sequenceAt t f i .length ≤ c → f .last ≤ c
+      → regionPixels t f i line ≤ (line - firstLine f i) * c
+  unfolding regionPixels
+  pixels-bound c line a b =
+      sum-le (lengthIn t f i) (firstLine f i) (line - firstLine f i) c (λ k l u. length-bound c k a b)
+
+  -- the region's lines before line e: the field's last line is not among them
+  pub pixels-inner : (e : ℕ) → ((line : ℕ) → firstLine f i ≤ line → line < e → line + 1 ≡ f .lines → ⊥)
+      → regionPixels t f i e ≡ (e - firstLine f i) * sequenceAt t f i .length
+  unfolding regionPixels
+  pixels-inner e n =
+      sum-same (lengthIn t f i) (firstLine f i) (e - firstLine f i) (sequenceAt t f i .length)
+      (λ line l u. length-inner line (n line l (omega arith)))
+
+  -- the field's last line is among them
+  pub pixels-last : (e : ℕ) → firstLine f i < f .lines → f .lines ≤ e
+      → regionPixels t f i e ≡ (e - firstLine f i - 1) * sequenceAt t f i .length + f .last
+  unfolding regionPixels
+  pixels-last e l u =
+      sum-but-one (lengthIn t f i) (firstLine f i) (e - firstLine f i) (sequenceAt t f i .length) (f .lines - 1) (omega arith) (omega arith)
+      (λ line a b n. length-inner line (omega arith))
+      ∙ ap (λ (x : ℕ). (e - firstLine f i - 1) * sequenceAt t f i .length + x) (length-last (f .lines - 1) (omega arith))
+
+  -- both, for every field and every e; a region's size is the case of its end
+  pub size-product : (e : ℕ)
+      → regionPixels t f i e
+      ≡ cond (ltb (firstLine f i) (f .lines) && leb (f .lines) e)
+      ((e - firstLine f i - 1) * sequenceAt t f i .length + f .last)
+      ((e - firstLine f i) * sequenceAt t f i .length)
+  size-product e =
+      by-cases (ltb (firstLine f i) (f .lines))
+      (λ a. by-cases (leb (f .lines) e)
+      (λ b. rw (a, b) (pixels-last e (ltb-true _ _ a) (leb-true _ _ b)))
+      (λ b. rw (a, b) (pixels-inner e (λ line l u q. let n = leb-false (f .lines) e b in omega arith))))
+      (λ a. rw a (pixels-inner e (λ line l u q. let n = ltb-false (firstLine f i) (f .lines) a in omega arith)))
+
+  -- before a line that the field has
+  pub origin-product : (line : ℕ) → line < f .lines → regionPixels t f i line ≡ (line - firstLine f i) * sequenceAt t f i .length
+  origin-product line h = pixels-inner line (λ k l u q. omega arith)
+
+-- ---- the pixels before a line, and the places that there are
+
+module _ (t : Tables) (f : Field) where
+  pub before-none : pixelsBefore t f 0 ≡ 0
+  unfolding pixelsBefore sum
+  before-none = refl
+
+  pub before-more : (line : ℕ) → pixelsBefore t f (line + 1) ≡ pixelsBefore t f line + lineLength t f line
+  unfolding pixelsBefore
+  before-more line = sum-more (lineLength t f) 0 line ∙ ap (λ (k : ℕ). sum (lineLength t f) 0 line + lineLength t f k) (zero-add line)
+
+  pub before-all : pixelsBefore t f (f .lines) ≡ pixelCount t f
+  unfolding pixelCount
+  before-all = refl
+
+  -- a field that has a pixel has a line
+  pub pixels-lines : 0 < pixelCount t f → 0 < f .lines
+  pixels-lines h =
+      by-cases (ltb 0 (f .lines))
+      (λ e. ltb-true 0 (f .lines) e)
+      (λ e.
+      let none : f .lines ≡ 0 = omega (arith, ltb-false 0 (f .lines) e) in
+      absurd (omega (arith, ap (pixelsBefore t f) none, before-none, before-all)))
+
+  pub before-below : (a b : ℕ) → a ≤ b → pixelsBefore t f a ≤ pixelsBefore t f b
+  unfolding pixelsBefore
+  before-below a b h = sum-below (lineLength t f) 0 a b h
+
+  -- a line's pixels lie before those of a later line
+  pub before-later : (a b : ℕ) → a < b → pixelsBefore t f a + lineLength t f a ≤ pixelsBefore t f b
+  before-later a b h = omega (arith, before-more a, before-below (a + 1) b (omega arith))
+
+  pub has-line : (line pixel : ℕ) → hasPixel t f line pixel ≡ true → line < f .lines
+  unfolding hasPixel
+  has-line line pixel e = ltb-true line (f .lines) (and-left (ltb line (f .lines)) _ e)
+
+  pub has-pixel : (line pixel : ℕ) → hasPixel t f line pixel ≡ true → pixel < lineLength t f line
+  unfolding hasPixel
+  has-pixel line pixel e = ltb-true pixel (lineLength t f line) (and-right (ltb line (f .lines)) _ e)
+
+  pub has-both : (line pixel : ℕ) → line < f .lines → pixel < lineLength t f line → hasPixel t f line pixel ≡ true
+  unfolding hasPixel
+  has-both line pixel a b = and-intro (lt-ltb line (f .lines) a) (lt-ltb pixel (lineLength t f line) b)
+
+-- ---- where regions end
+
+pub end-next : (f : Field) (i : ℕ) → i + 1 < regionCount f → endLine f i ≡ firstLine f (i + 1)
+unfolding endLine
+end-next f i h = rw (lt-ltb (i + 1) (regionCount f) h)
+
+pub end-last : (f : Field) (i : ℕ) → regionCount f ≤ i + 1 → endLine f i ≡ f .lines
+unfolding endLine
+end-last f i h = rw (le-ltb (i + 1) (regionCount f) h)
+
+-- ---- rule 7 as facts: "the first region starts at line 0, starts rise strictly, each is below the line count"
+
+pub record Ordered (f : Field) : Type 0 where
+  pub some : 0 < regionCount f
+  pub zero : firstLine f 0 ≡ 0
+  pub rise : (i : ℕ) → i + 1 < regionCount f → firstLine f i < firstLine f (i + 1)
+  pub below : (i : ℕ) → i < regionCount f → firstLine f i < f .lines
+
+pub starts-below : (f : Field) (i : ℕ) → startsRight f i ≡ true → firstLine f i < f .lines
+unfolding startsRight
+starts-below f i e = ltb-true (firstLine f i) (f .lines) (and-left _ _ e)
+
+pub starts-zero : (f : Field) → startsRight f 0 ≡ true → firstLine f 0 ≡ 0
+unfolding startsRight
+starts-zero f e = eqb-true (firstLine f 0) 0 (and-right (ltb (firstLine f 0) (f .lines)) _ e)
+
+pub starts-rise : (f : Field) (i : ℕ) → startsRight f (i + 1) ≡ true → firstLine f i < firstLine f (i + 1)
+unfolding startsRight
+starts-rise f i e =
+    let same : i + 1 - 1 ≡ i = omega arith in
+    let rest = and-right (ltb (firstLine f (i + 1)) (f .lines)) _ e in
+    ltb-true (firstLine f i) (firstLine f (i + 1)) (rw (ne-eqb (i + 1) 0 (omega arith), same) at rest)
+
+pub ordered : (f : Field) → ((i : ℕ) → i < regionCount f → startsRight f i ≡ true) → 0 < regionCount f → Ordered f
+ordered f right h =
+    record {
+      some = h;
+      zero = starts-zero f (right 0 h);
+      rise = λ i l. starts-rise f i (right (i + 1) l);
+      below = λ i l. starts-below f i (right i l);
+    }
+
+module _ (f : Field) (o : Ordered f) where
+  -- a later region starts later, by induction on the later one
+  pub start-later : (i j : ℕ) → i < j → j < regionCount f → firstLine f i < firstLine f j
+  start-later i zero h l = absurd (omega arith)
+  start-later i (suc j) h l =
+      let step : firstLine f j < firstLine f (suc j) = rw add-one at (o .rise j (omega arith)) in
+      by-cases (eqb i j)
+      (λ e. rw (eqb-true i j e) step)
+      (λ e. omega (arith, start-later i j (omega (arith, eqb-false i j e)) (omega arith)))
+
+  pub start-before-end : (i : ℕ) → i < regionCount f → firstLine f i < endLine f i
+  start-before-end i h =
+      by-cases (ltb (i + 1) (regionCount f))
+      (λ e. let l = ltb-true (i + 1) (regionCount f) e in rw (end-next f i l) (o .rise i l))
+      (λ e. rw (end-last f i (ltb-false (i + 1) (regionCount f) e)) (o .below i h))
+
+  pub end-most : (i : ℕ) → endLine f i ≤ f .lines
+  end-most i =
+      by-cases (ltb (i + 1) (regionCount f))
+      (λ e. let l = ltb-true (i + 1) (regionCount f) e in omega (arith, end-next f i l, o .below (i + 1) l))
+      (λ e. omega (arith, end-last f i (ltb-false (i + 1) (regionCount f) e)))
+
+  -- a later region starts where an earlier one ends, or after it
+  pub end-before-start : (i j : ℕ) → i < j → j < regionCount f → endLine f i ≤ firstLine f j
+  end-before-start i j h l =
+      let e = end-next f i (omega arith) in
+      by-cases (eqb (i + 1) j)
+      (λ q. omega (arith, ap (firstLine f) (eqb-true (i + 1) j q)))
+      (λ q. omega (arith, start-later (i + 1) j (omega (arith, eqb-false (i + 1) j q)) l))
+
+  -- the region of a line, and its lines
+  pub region-is : (i line : ℕ) → i < regionCount f → firstLine f i ≤ line → line < endLine f i → regionOf f line ≡ i
+  unfolding regionOf
+  region-is i line h l u =
+      last-is (firstLine f) (regionCount f) line i h l (λ j a b. omega (arith, end-before-start i j a b))
+
+  pub region-has : (line : ℕ) → line < f .lines
+      → (regionOf f line < regionCount f) × (firstLine f (regionOf f line) ≤ line) × (line < endLine f (regionOf f line))
+  unfolding regionOf
+  region-has line h =
+      let i : ℕ = lastStart (firstLine f) (regionCount f) line in (
+        last-below (firstLine f) (regionCount f) line (o .some),
+        last-starts (firstLine f) (regionCount f) line (o .some) (omega (arith, o .zero)),
+        by-cases (ltb (i + 1) (regionCount f))
+            (λ e.
+            let l = ltb-true (i + 1) (regionCount f) e in
+            rw (end-next f i l) (last-next (firstLine f) (regionCount f) line (i + 1) (omega arith) l))
+            (λ e. rw (end-last f i (ltb-false (i + 1) (regionCount f) e)) h),
+      )
+
+  -- the regions' lines in order are all the field's lines, once
+  pub regions-lines : {A : Type 0} (g : ℕ → List A)
+      → chunks (regionCount f) (λ i. chunks (endLine f i - firstLine f i) (λ k. g (firstLine f i + k))) ≡ chunks (f .lines) g
+  regions-lines g =
+      let n : ℕ = regionCount f - 1 in
+      let e : n + 1 ≡ regionCount f = omega (arith, o .some) in
+      ap (λ (m : ℕ). chunks m (λ i. chunks (endLine f i - firstLine f i) (λ k. g (firstLine f i + k)))) (sym e)
+      ∙ chunks-parts (firstLine f) (endLine f) (o .zero) g n
+      (λ i l. omega (arith, start-before-end i (omega arith)))
+      (λ i l. end-next f i (omega arith))
+      ∙ ap (λ (m : ℕ). chunks m g) (end-last f n (omega arith))
+
+  module _ (t : Tables) where
+    pub line-length-in : (i line : ℕ) → i < regionCount f → firstLine f i ≤ line → line < endLine f i
+        → lineLength t f line ≡ lengthIn t f i line
+    unfolding lineLength
+    line-length-in i line h l u = ap (λ (j : ℕ). lengthIn t f j line) (region-is i line h l u)
+
+    -- the pixels of a region's lines before a line of it, or before its end
+    pub region-pixels : (i line : ℕ) → i < regionCount f → line ≤ endLine f i
+        → regionPixels t f i line ≡ sum (lineLength t f) (firstLine f i) (line - firstLine f i)
+    unfolding regionPixels
+    region-pixels i line h u =
+        sum-ext (lengthIn t f i) (lineLength t f) (firstLine f i) (line - firstLine f i)
+        (λ k a b. sym (line-length-in i k h a (omega arith)))
+
+    pub pixels-before-line : (i line : ℕ) → i < regionCount f → firstLine f i ≤ line → line ≤ endLine f i
+        → pixelsBefore t f line ≡ pixelsBefore t f (firstLine f i) + regionPixels t f i line
+    unfolding pixelsBefore
+    pixels-before-line i line h l u =
+        omega (arith, region-pixels i line h u, sum-upto (lineLength t f) (firstLine f i) line l)
+
+    -- region sizes sum to the pixels before the last one's end, and all to the field's
+    pub regions-before : (n : ℕ) → n < regionCount f → sum (regionSize t f) 0 (n + 1) ≡ pixelsBefore t f (endLine f n)
+    unfolding pixelsBefore
+    regions-before n h =
+        sum-ext (regionSize t f) (λ i. sum (lineLength t f) (firstLine f i) (endLine f i - firstLine f i)) 0 (n + 1)
+        (λ i l u. region-pixels i (endLine f i) (omega arith) (omega arith))
+        ∙ sum-parts (firstLine f) (endLine f) (o .zero) (lineLength t f) n
+        (λ i l. omega (arith, start-before-end i (omega arith)))
+        (λ i l. end-next f i (omega arith))
+
+    pub regions-pixels : sum (regionSize t f) 0 (regionCount f) ≡ pixelCount t f
+    unfolding pixelCount
+    regions-pixels =
+        let n : ℕ = regionCount f - 1 in
+        let e : n + 1 ≡ regionCount f = omega (arith, o .some) in
+        ap (λ (m : ℕ). sum (regionSize t f) 0 m) (sym e)
+        ∙ regions-before n (omega arith)
+        ∙ ap (λ (m : ℕ). pixelsBefore t f m) (end-last f n (omega arith))
+
+-- ---- a profile in range: "lines 1..4095, last-line length 1..4095", "n = 1..7", "sequence 0..9", "line length 1..4095"
+
+-- what inRange says of each item
+pub record Ranged (p : Profile) : Type 0 where
+  pub halves : (i : ℕ) → i < 240 → getD (p .tables .registers) i 0 ≤ halfLimit i
+  pub sequences : (k : ℕ) → k < 10 → sequenceIn (sequenceOf (p .tables) k) ≡ true
+  pub gates : (k : ℕ) → k < 5 → gateIn (getD (p .tables .gates) k emptyGate) ≡ true
+  pub subck : subckIn (p .tables .subck) ≡ true
+  pub shutters : (k : ℕ) → k < 2 → shutterIn (getD (p .tables .shutters) k emptyShutter) ≡ true
+  pub field : fieldIn (p .field) ≡ true
+  pub regions : (i : ℕ) → i < 7 → regionIn (p .field) i ≡ true
+
+-- seven tests, each
+and-seven : (a b c d e f g : Bool) → a && b && c && d && e && f && g ≡ true
+    → (a ≡ true) × (b ≡ true) × (c ≡ true) × (d ≡ true) × (e ≡ true) × (f ≡ true) × (g ≡ true)
+and-seven a b c d e f g h =
+    let six = and-left (a && b && c && d && e && f) g h in
+    let five = and-left (a && b && c && d && e) f six in
+    let four = and-left (a && b && c && d) e five in
+    let three = and-left (a && b && c) d four in
+    let two = and-left (a && b) c three in (
+      and-left a b two,
+      and-right a b two,
+      and-right (a && b) c three,
+      and-right (a && b && c) d four,
+      and-right (a && b && c && d) e five,
+      and-right (a && b && c && d && e) f six,
+      and-right (a && b && c && d && e && f) g h,
+    )
+
+pub ranged : (p : Profile) → inRange p ≡ true → Ranged p
+unfolding inRange
+ranged p e =
+    let w =
+    and-seven (all (chunks 240 (halfTests (p .tables .registers)))) (all (chunks 10 (sequenceTests (p .tables .sequences))))
+    (all (chunks 5 (gateTests (p .tables .gates)))) (subckIn (p .tables .subck)) (all (chunks 2 (shutterTests (p .tables .shutters))))
+    (fieldIn (p .field)) (all (chunks 7 (regionTests (p .field)))) e in
+    record {
+      halves = λ i h. leb-true _ _ (sym (all-one _) ∙ all-chunks 240 (halfTests (p .tables .registers)) (w .0) i h);
+      sequences = λ k h. sym (all-one _) ∙ all-chunks 10 (sequenceTests (p .tables .sequences)) (w .1) k h;
+      gates = λ k h. sym (all-one _) ∙ all-chunks 5 (gateTests (p .tables .gates)) (w .2) k h;
+      subck = w .3;
+      shutters = λ k h. sym (all-one _) ∙ all-chunks 2 (shutterTests (p .tables .shutters)) (w .4) k h;
+      field = w .5;
+      regions = λ i h. sym (all-one _) ∙ all-chunks 7 (regionTests (p .field)) (w .6) i h;
+    }
+
+-- an absent sequence has length 0
+pub sequence-most : (s : Sequence) → sequenceIn s ≡ true → s .length ≤ 4095
+unfolding sequenceIn
+sequence-most s e =
+    by-cases (s .present)
+    (λ q. leb-true (s .length) 4095 (passed (sequenceRange s) (rw q at e) .1 .1 .0))
+    (λ q.
+    let none = passed (zeros (s .pattern ∷ s .length ∷ s .start ∷ s .odd ∷ s .even ∷ s .mask ∷ [])) (rw q at e) in
+    omega (arith, eqb-true (s .length) 0 (none .1 .0)))
+
+module _ (p : Profile) (e : inRange p ≡ true) (there : p .field .present ≡ true) where
+  pub field-tests : Passed (fieldRange (p .field))
+  unfolding fieldIn
+  field-tests = passed (fieldRange (p .field)) (rw there at (ranged p e .field))
+
+  pub lines-some : 1 ≤ p .field .lines
+  lines-some = leb-true 1 (p .field .lines) (field-tests .1 .0)
+
+  pub lines-most : p .field .lines ≤ 4095
+  lines-most = leb-true (p .field .lines) 4095 (field-tests .1 .1 .0)
+
+  pub last-some : 1 ≤ p .field .last
+  last-some = leb-true 1 (p .field .last) (field-tests .1 .1 .1 .0)
+
+  pub last-most : p .field .last ≤ 4095
+  last-most = leb-true (p .field .last) 4095 (field-tests .1 .1 .1 .1 .0)
+
+  pub count-some : 1 ≤ p .field .count
+  count-some = leb-true 1 (p .field .count) (field-tests .1 .1 .1 .1 .1 .1 .0)
+
+  pub count-most : p .field .count ≤ 7
+  count-most = leb-true (p .field .count) 7 (field-tests .1 .1 .1 .1 .1 .1 .1 .0)
+
+  pub region-count : regionCount (p .field) ≡ p .field .count
+  region-count = omega (arith, count-most)
+
+  pub regions-some : 1 ≤ regionCount (p .field)
+  regions-some = omega (arith, count-some)
+
+  pub region-tests : (i : ℕ) → i < regionCount (p .field) → Passed (regionRange (regionAt (p .field) i))
+  unfolding regionIn
+  region-tests i h =
+      passed (regionRange (regionAt (p .field) i))
+      (rw (lt-ltb i (p .field .count) (omega arith)) at (ranged p e .regions i (omega arith)))
+
+  pub first-most : (i : ℕ) → i < regionCount (p .field) → firstLine (p .field) i ≤ 4094
+  first-most i h = leb-true (firstLine (p .field) i) 4094 (region-tests i h .0)
+
+  pub sequence-below : (i : ℕ) → i < regionCount (p .field) → regionAt (p .field) i .sequence ≤ 9
+  sequence-below i h = leb-true (regionAt (p .field) i .sequence) 9 (region-tests i h .1 .0)
+
+  pub sequence-length-most : (i : ℕ) → i < regionCount (p .field) → sequenceAt (p .tables) (p .field) i .length ≤ 4095
+  sequence-length-most i h =
+      let k : ℕ = regionAt (p .field) i .sequence in
+      sequence-most (sequenceOf (p .tables) k) (ranged p e .sequences k (omega (arith, sequence-below i h)))
+
+  pub length-most : (i line : ℕ) → i < regionCount (p .field) → lengthIn (p .tables) (p .field) i line ≤ 4095
+  length-most i line h = length-bound (p .tables) (p .field) i 4095 line (sequence-length-most i h) last-most
+
+  pub line-length-most : (line : ℕ) → lineLength (p .tables) (p .field) line ≤ 4095
+  unfolding lineLength regionOf
+  line-length-most line = length-most _ line (last-below (firstLine (p .field)) (regionCount (p .field)) line regions-some)
+
+  pub region-pixels-most : (i line : ℕ) → i < regionCount (p .field) → line ≤ 4095
+      → regionPixels (p .tables) (p .field) i line ≤ 16769025
+  region-pixels-most i line h l =
+      le-trans (pixels-bound (p .tables) (p .field) i 4095 line (sequence-length-most i h) last-most) (omega arith)
+
+  pub pixels-most : pixelCount (p .tables) (p .field) ≤ 16769025
+  unfolding pixelCount pixelsBefore
+  pixels-most =
+      le-trans (sum-le (lineLength (p .tables) (p .field)) 0 (p .field .lines) 4095 (λ line l u. line-length-most line))
+      (omega (arith, lines-most))
