@@ -3,13 +3,13 @@
 use mathlib.Core.Path.{_≡_, refl, sym, ap, _∙_}
 use mathlib.Core.Bool.{Bool, true, false, cond, not, _&&_, _||_, false≢true}
 use mathlib.Core.Logic.{_⊎_, inl, inr}
-use mathlib.Core.List.{List, [], _∷_, _++_, append-assoc, append-nil}
+use mathlib.Core.List.{List, [], _∷_, _++_, map, append-assoc, append-nil}
 use Prim.Native.Nat.{ℕ, zero, suc, _+_, _*_, _-_, _≤_, _<_, zero-le}
-use native.Mathlib.Nat.{add-zero, zero-add, add-suc, suc-add, add-assoc, zero-mul, suc-mul, add-mul, le-refl}
+use native.Mathlib.Nat.{add-zero, zero-add, add-suc, suc-add, add-assoc, zero-mul, suc-mul, add-mul, le-refl, le-trans, mul-le-mul}
 use native.Mathlib.Numerals.{add-one}
 use native.Mathlib.Omega.{arith}
-use borrow.Author.Tests.{leb-true, leb-false, le-leb, lt-leb, eqb-true, eqb-false}
-use lib.ListN.{length, getD, drop, length-append, List·getD-append, List·getD-eq-default}
+use borrow.Author.Tests.{not-true, not-false, leb-true, leb-false, le-leb, lt-leb, eqb-true, eqb-false}
+use lib.ListN.{length, length-map, getD, drop, length-append, List·getD-append, List·getD-eq-default}
 use lib.Seq.{getD-append-add, drop-at}
 use lib.Dec.{leb, ltb, eqb}
 use Rattle.profile.specs.Lists.{all, chunks, sum, lastStart, over}
@@ -56,6 +56,13 @@ or-left a b e = rw e
 pub or-right : (a b : Bool) → b ≡ true → a || b ≡ true
 or-right true b e = refl
 or-right false b e = e
+
+-- what `if !f(..)` tells of the test that f computes
+pub told-no : {a b : Bool} → a ≡ b → not a ≡ true → b ≡ false
+told-no e n = sym e ∙ not-true _ n
+
+pub told-yes : {a b : Bool} → a ≡ b → not a ≡ false → b ≡ true
+told-yes e n = sym e ∙ not-false _ n
 
 -- ---- all tests of a list
 
@@ -311,3 +318,32 @@ sum-but-one g a n c m l u e =
       ap (λ (k : ℕ). k * c) q,
       add-mul (m - a) (n - (m - a) - 1) c,
     )
+
+-- ---- what the code's types tell
+
+-- a product of two numbers of 16 bits
+pub product-fits : (a b : ℕ) → a ≤ 65535 → b ≤ 65535 → a * b ≤ 4294836225
+product-fits a b h k = le-trans (mul-le-mul h k) (omega arith)
+
+-- what owning an array of structs tells of its length
+pub length-unmapped : {A B : Type 0} (f : A → B) (l : List A) (n : ℕ) → length (map f l) ≡ n → length l ≡ n
+length-unmapped f l n e = sym (length-map l f) ∙ e
+
+-- ---- a loop that looks for the last start, from the end
+
+module _ (start : ℕ → ℕ) (x : ℕ) where
+  last-step : (i : ℕ) → 0 < i → lastStart start i x ≡ cond (leb (start (i - 1)) x) (i - 1) (lastStart start (i - 1) x)
+  unfolding lastStart
+  last-step zero h = absurd (omega arith)
+  last-step (suc j) h = let e : suc j - 1 ≡ j = omega arith in rw e
+
+  pub last-here : (i : ℕ) → 0 < i → start (i - 1) ≤ x → lastStart start i x ≡ i - 1
+  last-here i h k = last-step i h ∙ rw (le-leb (start (i - 1)) x k)
+
+  pub last-down : (i : ℕ) → 0 < i → x < start (i - 1) → lastStart start i x ≡ lastStart start (i - 1) x
+  last-down i h k = last-step i h ∙ rw (lt-leb (start (i - 1)) x k)
+
+  pub last-none : (i : ℕ) → i ≤ 0 → lastStart start i x ≡ 0
+  unfolding lastStart
+  last-none zero h = refl
+  last-none (suc i) h = absurd (omega arith)

@@ -33,8 +33,16 @@ unfoldable pub patternOf : List ℕ → ℕ → Pattern
 patternOf registers k = patternFrom (halfOf registers k)
 
 -- "A pattern is six outputs of three toggles each": the toggles of output k, V1 being output 0
+abbrev pub threeAt : List ℕ → ℕ → List ℕ
+threeAt toggles at = getD toggles at 0 ∷ getD toggles (at + 1) 0 ∷ getD toggles (at + 2) 0 ∷ []
+
 abbrev pub rowOf : Pattern → ℕ → List ℕ
-rowOf a k = getD (a .toggles) (3 * k) 0 ∷ getD (a .toggles) (3 * k + 1) 0 ∷ getD (a .toggles) (3 * k + 2) 0 ∷ []
+rowOf a k = threeAt (a .toggles) (3 * k)
+
+-- all six
+abbrev pub rowsOf : List ℕ → List (List ℕ)
+rowsOf toggles =
+    threeAt toggles 0 ∷ threeAt toggles 3 ∷ threeAt toggles 6 ∷ threeAt toggles 9 ∷ threeAt toggles 12 ∷ threeAt toggles 15 ∷ []
 
 -- "plain and sweep: a toggle at or above the pattern length is unused. Multiplier and second pattern: 4095 is unused, and nothing else."
 -- A second pattern's toggles are used as those of multiplier are.

@@ -1,5 +1,26 @@
 // Scripts and profiles. A profile is what a script carries: the 120 registers as 240 half registers, sequences, the field, gates, SUBCK and
 // shutters. Numbers are u16 as the records carry them, levels and on flags too (0 or 1); presence is a bool.
+ghost use mathlib.Core.Path.{_≡_};
+ghost use Rattle.profile.specs.Values.{accepted, refused, emptyProfile};
+
+mod patterns;
+mod geometry;
+
+pub use geometry::end_line;
+pub use geometry::has_pixel;
+pub use geometry::length_in;
+pub use geometry::line_length;
+pub use geometry::pixel_count;
+pub use geometry::region_at;
+pub use geometry::region_count;
+pub use geometry::region_of;
+pub use geometry::region_pixels;
+pub use geometry::repetitions;
+pub use geometry::sequence_at;
+pub use geometry::sequence_of;
+pub use patterns::pattern_of;
+pub use patterns::rows_of;
+pub use patterns::used;
 
 // How the six V outputs run in a region.
 pub enum Mode {
@@ -100,4 +121,24 @@ pub struct ReadAnswer {
 pub struct Written {
     pub verdict: Verdict,
     pub length: usize,
+}
+
+// The verdict of what is accepted.
+pub fn accept() -> Verdict
+    ensures { λ r. ⌜ r ≡ accepted ⌝ }
+{
+    Verdict {
+        number: 0,
+        place: 0,
+    }
+}
+
+// The verdict of a refusal by its number, at its place.
+pub fn refuse(number: u16, place: u64) -> Verdict
+    ensures { λ r. ⌜ r ≡ refused number place ⌝ }
+{
+    Verdict {
+        number: number,
+        place: place,
+    }
 }

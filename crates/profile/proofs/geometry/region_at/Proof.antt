@@ -1,0 +1,24 @@
+-- Past the seventh there is no region, and the definition reads the all-zero one.
+-- Assumes nothing.
+use mathlib.Core.Path.{_≡_, sym}
+use lib.ListN.{length, List·getD-eq-default}
+use Rattle.profile.proofs.Laws.{length-unmapped}
+use borrow.Author.Needs.{needs}
+use native.Mathlib.Omega.{arith}
+use Rattle.profile.proofs.geometry.region_at.Statement.{statement}
+use Rattle.profile.proofs.geometry.region_at.Tie as tie
+
+mul-result : tie.Need-mul-result
+mul-result c = search needs
+
+element-copy-out-result : tie.Need-element-copy-out-result
+element-copy-out-result c = search needs
+
+returns : tie.Need-returns
+returns c = search needs
+
+returns-2 : tie.Need-returns-2
+returns-2 c = let f = c .before .args .t1 in let e : length (f .regions) ≡ 7 = search length-unmapped in sym (List·getD-eq-default (f .regions) _ (omega (arith, c .if1 .left)))
+
+pub region-at-spec : {M : Type 1} → statement M
+region-at-spec = tie.close (tie.spec mul-result element-copy-out-result returns returns-2)

@@ -1,0 +1,183 @@
+// Regions, lines and their lengths: the product forms of the sums that the definitions are.
+use crate::Field;
+use crate::Mode;
+use crate::Region;
+use crate::Sequence;
+use crate::Tables;
+ghost use mathlib.Core.Path.{_≡_};
+ghost use Prim.Native.Nat.{_<_, _≤_, _+_, _*_};
+ghost use lib.Dec.{eqb};
+ghost use Rattle.profile.specs.Geometry.{
+  regionCount,
+  regionAt,
+  regionOf,
+  endLine,
+  sequenceOf,
+  sequenceAt,
+  lengthIn,
+  lineLength,
+  regionPixels,
+  pixelCount,
+  hasPixel,
+  repetitions,
+};
+
+// How many regions there are, at most seven.
+pub fn region_count(field: Field) -> usize
+    ensures { λ r. ⌜ r ≡ regionCount field ⌝ }
+    ensures { λ r. ⌜ r ≤ 7 ⌝ }
+{
+    if field.count < 7 { field.count as usize } else { 7 }
+}
+
+// Region i; all zeros where there is none.
+pub fn region_at(field: Field, i: usize) -> Region
+    ensures { λ r. ⌜ r ≡ regionAt field i ⌝ }
+{
+    if i < 7 {
+        return field.regions[i];
+    }
+    Region {
+        first: 0,
+        sequence: 0,
+        mode: Mode::Plain,
+    }
+}
+
+// The region of a line: the last that starts at or before it.
+pub fn region_of(field: Field, line: u64) -> usize
+    ensures { λ r. ⌜ r ≡ regionOf field line ⌝ }
+    ensures { λ r. ⌜ r < 7 ⌝ }
+{
+    let mut i = region_count(field);
+    while 0 < i {
+        i -= 1;
+        let region = region_at(field, i);
+        if (region.first as u64) <= line {
+            return i;
+        }
+    }
+    0
+}
+
+// The line after region i's last.
+pub fn end_line(field: Field, i: usize) -> u16
+    ensures { λ r. ⌜ r ≡ endLine field i ⌝ }
+{
+    if 6 < i {
+        return field.lines;
+    }
+    if i + 1 < region_count(field) {
+        let region = region_at(field, i + 1);
+        return region.first;
+    }
+    field.lines
+}
+
+// Sequence k; all zeros where there is none.
+pub fn sequence_of(tables: Tables, k: u16) -> Sequence
+    ensures { λ r. ⌜ r ≡ sequenceOf tables k ⌝ }
+{
+    if k < 10 {
+        return tables.sequences[k as usize];
+    }
+    Sequence {
+        present: false,
+        pattern: 0,
+        length: 0,
+        start: 0,
+        odd: 0,
+        even: 0,
+        mask: 0,
+    }
+}
+
+// The sequence of region i.
+pub fn sequence_at(tables: Tables, field: Field, i: usize) -> Sequence
+    ensures { λ r. ⌜ r ≡ sequenceAt tables field i ⌝ }
+{
+    let region = region_at(field, i);
+    sequence_of(tables, region.sequence)
+}
+
+// Whether a line is the field's last.
+fn is_last(lines: u16, line: u64) -> bool
+    ensures { λ r. ⌜ r ≡ eqb (line + 1) lines ⌝ }
+{
+    if (lines as u64) <= line {
+        return false;
+    }
+    line + 1 == (lines as u64)
+}
+
+// The length of a line of region i.
+pub fn length_in(tables: Tables, field: Field, i: usize, line: u64) -> u16
+    ensures { λ r. ⌜ r ≡ lengthIn tables field i line ⌝ }
+{
+    if is_last(field.lines, line) {
+        return field.last;
+    }
+    let sequence = sequence_at(tables, field, i);
+    sequence.length
+}
+
+// The length of a line.
+pub fn line_length(tables: Tables, field: Field, line: u64) -> u16
+    ensures { λ r. ⌜ r ≡ lineLength tables field line ⌝ }
+{
+    length_in(tables, field, region_of(field, line), line)
+}
+
+// n lines of one length, as far as they can be counted.
+fn product(n: u16, length: u16) -> u64
+    ensures { λ r. ⌜ r ≡ n * length ⌝ }
+    ensures { λ r. ⌜ r ≤ 4294836225 ⌝ }
+{
+    (n as u64) * (length as u64)
+}
+
+// The pixels of region i's lines before a line; its size, where that line is its end.
+pub fn region_pixels(tables: Tables, field: Field, i: usize, line: u16) -> u64
+    ensures { λ r. ⌜ r ≡ regionPixels tables field i line ⌝ }
+    ensures { λ r. ⌜ r ≤ 4294901760 ⌝ }
+{
+    let region = region_at(field, i);
+    let sequence = sequence_at(tables, field, i);
+    let first = region.first;
+    if line <= first {
+        return 0;
+    }
+    let n = line - first;
+    if (first < field.lines) & (field.lines <= line) {
+        return product(n - 1, sequence.length) + (field.last as u64);
+    }
+    product(n, sequence.length)
+}
+
+// The field's pixels.
+pub fn pixel_count(tables: Tables, field: Field) -> u64
+    ensures { λ r. ⌜ r ≡ pixelCount tables field ⌝ }
+{
+    let lines = field.lines as u64;
+    let mut line = 0u64;
+    let mut pixels = 0u64;
+    while line < lines {
+        pixels += line_length(tables, field, line) as u64;
+        line += 1;
+    }
+    pixels
+}
+
+// Whether there is such a line and pixel.
+pub fn has_pixel(tables: Tables, field: Field, line: u64, pixel: u64) -> bool
+    ensures { λ r. ⌜ r ≡ hasPixel tables field line pixel ⌝ }
+{
+    (line < (field.lines as u64)) & (pixel < (line_length(tables, field, line) as u64))
+}
+
+// The repetitions on a line: lines 0, 2, 4 .. take the odd count.
+pub fn repetitions(sequence: Sequence, line: u64) -> u16
+    ensures { λ r. ⌜ r ≡ repetitions sequence line ⌝ }
+{
+    if line % 2 == 0 { sequence.odd } else { sequence.even }
+}
