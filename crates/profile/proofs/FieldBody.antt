@@ -179,6 +179,9 @@ module _ (f : Field) (sized : length (f .regions) ≡ 7) (present : f .present �
       (chunks-all (f .count) (regionFits b)
       (λ i h. region-fits f (f .count) i h (region-present f i (regions i (omega (arith, count-high))) h))))
 
+  pub length-record : length (fieldRecord f) ≡ 4 + (10 + 6 * f .count)
+  length-record = omega (arith, length-chunks 6 (regionCount f) (regionBytes f) (λ i. refl), count-high)
+
   pub step-field : (rest : List ℕ) (p : Profile) → step (fieldRecord f ++ rest) p ≡ next (10 + 6 * f .count) (replaceField f p)
   unfolding allowed fits put
   step-field rest p =

@@ -1,0 +1,110 @@
+-- What the check's acceptance says: the profile is in range, it has a field, and every rule holds.
+-- Every rule has a number of refusal, so a list of rules without a broken one has them all.
+-- Assumes nothing.
+use mathlib.Core.Path.{_≡_, refl, ap, _∙_}
+use mathlib.Core.Bool.{Bool, true, false}
+use mathlib.Core.List.{List, [], _∷_, _++_}
+use Prim.Native.Nat.{ℕ, _<_}
+use native.Mathlib.Omega.{arith}
+use Rattle.profile.specs.Lists.{chunks}
+use Rattle.profile.specs.Values.{accepted, refused}
+use Rattle.profile.specs.Geometry.{regionCount, sequenceAt}
+use Rattle.profile.specs.Ranges.{inRange}
+use Rattle.profile.specs.Rules.{
+  Entry,
+  firstBroken,
+  orderEntries,
+  toggleEntries,
+  runEntries,
+  regionEntries,
+  lineEntries,
+  gateEntries,
+  subckEntries,
+  shutterEntries,
+  rulesOf,
+  judge,
+  checkProfile,
+}
+use Rattle.profile.specs.declared.Tables.{Tables}
+use Rattle.profile.specs.declared.Field.{Field}
+use Rattle.profile.specs.declared.Profile.{Profile}
+use Rattle.profile.specs.declared.Verdict.{Verdict}
+use Rattle.profile.proofs.Laws.{by-cases}
+use Rattle.profile.proofs.Entries.{Numbered, entries-hold, numbered-append, numbered-chunks, fine-left, fine-right, fine-chunk}
+
+refused-accepted : {A : Type 0} (n at : ℕ) → 0 < n → refused n at ≡ accepted → A
+refused-accepted n at h e = absurd (omega (arith, ap (λ (v : Verdict). v .number) e))
+
+-- ---- the check, then the judging
+
+pub check-range : (p : Profile) → checkProfile p ≡ accepted → inRange p ≡ true
+unfolding checkProfile
+check-range p e = by-cases (inRange p) (λ h. h) (λ h. refused-accepted 5 0 (omega arith) (rw h at e))
+
+pub check-judge : (p : Profile) → inRange p ≡ true → checkProfile p ≡ judge p
+unfolding checkProfile
+check-judge p h = rw h
+
+pub judge-field : (p : Profile) → judge p ≡ accepted → p .field .present ≡ true
+unfolding judge
+judge-field p e = by-cases (p .field .present) (λ h. h) (λ h. refused-accepted 6 0 (omega arith) (rw h at e))
+
+pub judge-rules : (p : Profile) → p .field .present ≡ true → judge p ≡ firstBroken (rulesOf (p .tables) (p .field))
+unfolding judge
+judge-rules p h = rw h
+
+-- ---- every rule has a number
+
+module _ (t : Tables) (f : Field) where
+  pub numbered-order : (i : ℕ) → Numbered (orderEntries f i)
+  numbered-order i = (omega arith, tt)
+
+  numbered-toggles : (i k : ℕ) → Numbered (toggleEntries t f i k)
+  numbered-toggles i k = (omega arith, tt)
+
+  pub numbered-region : (i : ℕ) → Numbered (regionEntries t f i)
+  unfolding regionEntries
+  numbered-region i = (
+    omega arith,
+    (
+      omega arith,
+      numbered-append (chunks 6 (toggleEntries t f i)) (runEntries t f i) (numbered-chunks 6 (toggleEntries t f i) (numbered-toggles i))
+          (omega arith, (omega arith, (omega arith, tt))),
+    ),
+  )
+
+  pub numbered-lines : Numbered (lineEntries t f)
+  unfolding lineEntries
+  numbered-lines = (omega arith, (omega arith, tt))
+
+  pub numbered-gates : (k : ℕ) → Numbered (gateEntries t f k)
+  numbered-gates k = (omega arith, tt)
+
+  pub numbered-shutters : (k : ℕ) → Numbered (shutterEntries t f k)
+  numbered-shutters k = (omega arith, tt)
+
+  -- ---- what an accepting judgement says of a region
+
+  pub region-fine : firstBroken (rulesOf t f) ≡ accepted → (i : ℕ) → i < regionCount f → firstBroken (regionEntries t f i) ≡ accepted
+  unfolding rulesOf
+  region-fine e i h =
+      let n = regionCount f in
+      let a = chunks n (orderEntries f) in
+      let b = chunks n (regionEntries t f) in
+      let c = lineEntries t f in
+      let d = chunks 5 (gateEntries t f) in
+      let na = numbered-chunks n (orderEntries f) numbered-order in
+      let nb = numbered-append a b na (numbered-chunks n (regionEntries t f) numbered-region) in
+      let nc = numbered-append (a ++ b) c nb numbered-lines in
+      let nd = numbered-append (a ++ b ++ c) d nc (numbered-chunks 5 (gateEntries t f) numbered-gates) in
+      let ne = numbered-append (a ++ b ++ c ++ d) (subckEntries t) nd (omega arith, tt) in
+      let e4 = fine-left (a ++ b ++ c ++ d ++ subckEntries t) (chunks 2 (shutterEntries t f)) ne e in
+      let e3 = fine-left (a ++ b ++ c ++ d) (subckEntries t) nd e4 in
+      let e2 = fine-left (a ++ b ++ c) d nc e3 in
+      let e1 = fine-left (a ++ b) c nb e2 in
+      fine-chunk n (regionEntries t f) numbered-region (fine-right a b na e1) i h
+
+  -- 8: the sequence of each region is present
+  pub sequence-given : firstBroken (rulesOf t f) ≡ accepted → (i : ℕ) → i < regionCount f → sequenceAt t f i .present ≡ true
+  unfolding regionEntries
+  sequence-given e i h = entries-hold (regionEntries t f i) (numbered-region i) (region-fine e i h) .0
