@@ -1,7 +1,7 @@
 -- What the check's acceptance says: the profile is in range, it has a field, and every rule holds.
 -- Every rule has a number of refusal, so a list of rules without a broken one has them all.
 -- Assumes nothing.
-use mathlib.Core.Path.{_≡_, refl, ap, _∙_}
+use mathlib.Core.Path.{_≡_, refl, sym, ap, _∙_}
 use mathlib.Core.Bool.{Bool, true, false}
 use mathlib.Core.List.{List, [], _∷_, _++_}
 use Prim.Native.Nat.{ℕ, _<_}
@@ -30,7 +30,7 @@ use Rattle.profile.specs.declared.Field.{Field}
 use Rattle.profile.specs.declared.Profile.{Profile}
 use Rattle.profile.specs.declared.Verdict.{Verdict}
 use Rattle.profile.proofs.Laws.{by-cases}
-use Rattle.profile.proofs.Entries.{Numbered, entries-hold, numbered-append, numbered-chunks, fine-left, fine-right, fine-chunk}
+use Rattle.profile.proofs.Entries.{Numbered, Hold, entries-hold, number-accepted, numbered-append, numbered-chunks, hold-left, hold-right, hold-chunk}
 
 refused-accepted : {A : Type 0} (n at : ℕ) → 0 < n → refused n at ≡ accepted → A
 refused-accepted n at h e = absurd (omega (arith, ap (λ (v : Verdict). v .number) e))
@@ -83,28 +83,56 @@ module _ (t : Tables) (f : Field) where
   pub numbered-shutters : (k : ℕ) → Numbered (shutterEntries t f k)
   numbered-shutters k = (omega arith, tt)
 
-  -- ---- what an accepting judgement says of a region
-
-  pub region-fine : firstBroken (rulesOf t f) ≡ accepted → (i : ℕ) → i < regionCount f → firstBroken (regionEntries t f i) ≡ accepted
+  pub numbered-rules : Numbered (rulesOf t f)
   unfolding rulesOf
-  region-fine e i h =
+  numbered-rules =
       let n = regionCount f in
       let a = chunks n (orderEntries f) in
       let b = chunks n (regionEntries t f) in
       let c = lineEntries t f in
       let d = chunks 5 (gateEntries t f) in
-      let na = numbered-chunks n (orderEntries f) numbered-order in
-      let nb = numbered-append a b na (numbered-chunks n (regionEntries t f) numbered-region) in
-      let nc = numbered-append (a ++ b) c nb numbered-lines in
-      let nd = numbered-append (a ++ b ++ c) d nc (numbered-chunks 5 (gateEntries t f) numbered-gates) in
-      let ne = numbered-append (a ++ b ++ c ++ d) (subckEntries t) nd (omega arith, tt) in
-      let e4 = fine-left (a ++ b ++ c ++ d ++ subckEntries t) (chunks 2 (shutterEntries t f)) ne e in
-      let e3 = fine-left (a ++ b ++ c ++ d) (subckEntries t) nd e4 in
-      let e2 = fine-left (a ++ b ++ c) d nc e3 in
-      let e1 = fine-left (a ++ b) c nb e2 in
-      fine-chunk n (regionEntries t f) numbered-region (fine-right a b na e1) i h
+      numbered-append (a ++ b ++ c ++ d ++ subckEntries t) (chunks 2 (shutterEntries t f))
+      (numbered-append (a ++ b ++ c ++ d) (subckEntries t)
+      (numbered-append (a ++ b ++ c) d
+      (numbered-append (a ++ b) c
+      (numbered-append a b (numbered-chunks n (orderEntries f) numbered-order) (numbered-chunks n (regionEntries t f) numbered-region))
+      numbered-lines)
+      (numbered-chunks 5 (gateEntries t f) numbered-gates))
+      (omega arith, tt))
+      (numbered-chunks 2 (shutterEntries t f) numbered-shutters)
+
+  pub rules-hold : firstBroken (rulesOf t f) ≡ accepted → Hold (rulesOf t f)
+  rules-hold e = entries-hold (rulesOf t f) numbered-rules e
+
+  -- 8 to 13 of each region
+  pub region-holds : Hold (rulesOf t f) → (i : ℕ) → i < regionCount f → Hold (regionEntries t f i)
+  unfolding rulesOf
+  region-holds e i h =
+      let n = regionCount f in
+      let a = chunks n (orderEntries f) in
+      let b = chunks n (regionEntries t f) in
+      let c = lineEntries t f in
+      let d = chunks 5 (gateEntries t f) in
+      hold-chunk n (regionEntries t f)
+      (hold-right a b
+      (hold-left (a ++ b) c
+      (hold-left (a ++ b ++ c) d
+      (hold-left (a ++ b ++ c ++ d) (subckEntries t)
+      (hold-left (a ++ b ++ c ++ d ++ subckEntries t) (chunks 2 (shutterEntries t f)) e)))))
+      i h
 
   -- 8: the sequence of each region is present
   pub sequence-given : firstBroken (rulesOf t f) ≡ accepted → (i : ℕ) → i < regionCount f → sequenceAt t f i .present ≡ true
   unfolding regionEntries
-  sequence-given e i h = entries-hold (regionEntries t f i) (numbered-region i) (region-fine e i h) .0
+  sequence-given e i h = region-holds (rules-hold e) i h .0
+
+-- a judgement of number 0 is `accepted`: there is no other with that number
+pub judge-number : (p : Profile) → judge p .number ≡ 0 → judge p ≡ accepted
+unfolding judge
+judge-number p e =
+    by-cases (p .field .present)
+    (λ h.
+    let q = judge-rules p h in
+    let n = sym (ap (λ (v : Verdict). v .number) q) ∙ e in
+    q ∙ number-accepted (rulesOf (p .tables) (p .field)) (numbered-rules (p .tables) (p .field)) n)
+    (λ h. let z = rw h at e in absurd (omega arith))
