@@ -212,6 +212,17 @@ region-absent f i e h =
       mode = mode-zero (regionAt f i .mode) (z .1 .1 .0) j;
     }
 
+-- the other way round
+pub region-inside : (f : Field) (i : ℕ) → i < f .count → all (regionRange (regionAt f i)) ≡ true → regionIn f i ≡ true
+unfolding regionIn
+region-inside f i h e = rw (lt-ltb i (f .count) h) e
+
+pub region-past : (f : Field) (i : ℕ) → f .count ≤ i → regionAt f i ≡ emptyRegion → regionIn f i ≡ true
+unfolding regionIn all
+region-past f i h e =
+    rw (le-ltb i (f .count) h)
+    (ap (λ (r : Region). all (zeros (r .first ∷ r .sequence ∷ modeNumber (r .mode) ∷ []))) e)
+
 -- the numbers of an absent field
 pub field-absent : (f : Field) → fieldIn f ≡ true → f .present ≡ false
     → (f .lines ≡ 0) × (f .last ≡ 0) × (f .gate ≡ 0) × (f .second ≡ 0) × (f .count ≡ 0)
