@@ -1,35 +1,18 @@
 -- A record of each kind, written and read again: it is taken, and the profile gets the item back.
 -- Two or three bytes give their number again, so the record's tests are the item's own ranges.
 -- Assumes nothing.
-use mathlib.Core.Path.{_≡_, refl, sym, ap, _∙_}
-use mathlib.Core.Bool.{Bool, true, false, not, _||_}
-use mathlib.Core.List.{List, [], _∷_, _++_}
-use Prim.Native.Nat.{ℕ, _+_, _-_, _*_, _/_, _%_, _<_, _≤_}
+use mathlib.Core.Path.{_≡_, refl, sym, _∙_}
+use mathlib.Core.Bool.{true, not, _||_}
+use mathlib.Core.List.{List, _++_}
+use Prim.Native.Nat.{ℕ, _+_, _*_, _/_, _%_, _<_, _≤_}
 use native.Mathlib.Omega.{arith}
-use borrow.Author.Tests.{lt-ltb, le-ltb, le-leb, leb-true, eq-eqb, eqb-true}
-use lib.Dec.{ltb, leb, eqb}
-use lib.ListN.{length, take, drop, set, getD, length-append}
+use borrow.Author.Tests.{le-ltb, le-leb, leb-true, eq-eqb, eqb-true}
+use lib.Dec.{leb, eqb}
+use lib.ListN.{length, set}
 use Rattle.profile.specs.Lists.{all}
-use Rattle.profile.specs.Bytes.{numberAt, dataAt, twoBytes, threeBytes}
+use Rattle.profile.specs.Bytes.{numberAt}
 use Rattle.profile.specs.Ranges.{halfLimit, sequenceRange, gateRange, subckRange, shutterRange}
-use Rattle.profile.specs.Script.{
-  registerFits,
-  sequenceFrom,
-  sequenceFits,
-  gateFrom,
-  gateFits,
-  subckFrom,
-  subckFits,
-  shutterFrom,
-  shutterFits,
-  known,
-  allowed,
-  fits,
-  put,
-  bodyOf,
-  next,
-  step,
-}
+use Rattle.profile.specs.Script.{registerFits, sequenceFits, gateFits, subckFits, shutterFits, known, allowed, fits, put, bodyOf, next, step}
 use Rattle.profile.specs.Writing.{registerRecord, sequenceRecord, gateRecord, subckRecord, shutterRecord}
 use Rattle.profile.specs.declared.Sequence.{Sequence}
 use Rattle.profile.specs.declared.Gate.{Gate}

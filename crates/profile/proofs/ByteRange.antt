@@ -1,7 +1,7 @@
 -- Lists of bytes: each element is below 256. A part of one is one, and so is a written script, whose numbers are in range.
 -- A number below 65,536 makes two bytes, any number three.
 -- Assumes nothing.
-use mathlib.Core.Path.{_≡_, refl}
+use mathlib.Core.Path.{_≡_}
 use mathlib.Core.Bool.{Bool, true, cond, _||_}
 use mathlib.Core.Logic.{⊎-elim}
 use mathlib.Core.List.{List, [], _∷_, _++_}
@@ -142,7 +142,7 @@ bytes-shutter k s h e =
     let q = passed (shutterRange s) e in
     bytes-two (12 ∷ 6 ∷ k ∷ s .active ∷ s .«on_line» ∷ s .«on_pixel» ∷ s .«off_line» ∷ s .«off_pixel» ∷ []) (omega (arith, leb-true))
 
-mode-below : (m : Mode) → modeNumber m < 3
+pub mode-below : (m : Mode) → modeNumber m < 3
 mode-below Plain = omega arith
 mode-below Sweep = omega arith
 mode-below Multiplier = omega arith

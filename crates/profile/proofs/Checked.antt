@@ -1,9 +1,9 @@
 -- What the check's acceptance says: the profile is in range, it has a field, and every rule holds.
 -- Every rule has a number of refusal, so a list of rules without a broken one has them all.
 -- Assumes nothing.
-use mathlib.Core.Path.{_≡_, refl, sym, ap, _∙_}
-use mathlib.Core.Bool.{Bool, true, false}
-use mathlib.Core.List.{List, [], _∷_, _++_}
+use mathlib.Core.Path.{_≡_, sym, ap, _∙_}
+use mathlib.Core.Bool.{true}
+use mathlib.Core.List.{_++_}
 use Prim.Native.Nat.{ℕ, _<_}
 use native.Mathlib.Omega.{arith}
 use Rattle.profile.specs.Lists.{chunks}
@@ -11,7 +11,6 @@ use Rattle.profile.specs.Values.{accepted, refused}
 use Rattle.profile.specs.Geometry.{regionCount, sequenceAt}
 use Rattle.profile.specs.Ranges.{inRange}
 use Rattle.profile.specs.Rules.{
-  Entry,
   firstBroken,
   orderEntries,
   toggleEntries,
@@ -30,7 +29,17 @@ use Rattle.profile.specs.declared.Field.{Field}
 use Rattle.profile.specs.declared.Profile.{Profile}
 use Rattle.profile.specs.declared.Verdict.{Verdict}
 use Rattle.profile.proofs.Laws.{by-cases}
-use Rattle.profile.proofs.Entries.{Numbered, Hold, entries-hold, number-accepted, numbered-append, numbered-chunks, hold-left, hold-right, hold-chunk}
+use Rattle.profile.proofs.Entries.{
+  Numbered,
+  Hold,
+  entries-hold,
+  number-accepted,
+  numbered-append,
+  numbered-chunks,
+  hold-left,
+  hold-right,
+  hold-chunk,
+}
 
 refused-accepted : {A : Type 0} (n at : ℕ) → 0 < n → refused n at ≡ accepted → A
 refused-accepted n at h e = absurd (omega (arith, ap (λ (v : Verdict). v .number) e))

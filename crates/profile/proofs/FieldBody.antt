@@ -2,13 +2,13 @@
 -- Region i's six bytes lie from 10 + 6i in the body, and the regions past n are the empty ones.
 -- Assumes nothing.
 use mathlib.Core.Path.{_≡_, refl, sym, ap, _∙_}
-use mathlib.Core.Bool.{Bool, true, false, _&&_}
+use mathlib.Core.Bool.{true}
 use mathlib.Core.List.{List, [], _∷_, _++_}
 use Prim.Native.Nat.{ℕ, _+_, _-_, _*_, _/_, _%_, _<_, _≤_}
 use native.Mathlib.Omega.{arith}
-use borrow.Author.Tests.{ltb-true, ltb-false, le-leb, leb-true, eq-eqb}
+use borrow.Author.Tests.{ltb-true, ltb-false, le-leb, eq-eqb}
 use lib.Dec.{ltb, leb, eqb}
-use lib.ListN.{length, take, drop, getD, replicate, length-append, length-replicate, getD-replicate, List·getD-append, List·getD-eq-default}
+use lib.ListN.{length, take, getD, replicate, length-append, length-replicate, getD-replicate, List·getD-append, List·getD-eq-default}
 use lib.Seq.{take-at, getD-append-add, ext-getD}
 use Rattle.profile.specs.Lists.{all, chunks}
 use Rattle.profile.specs.Bytes.{numberAt, twoBytes}
@@ -34,19 +34,10 @@ use Rattle.profile.specs.declared.Mode.the-variants.{Plain, Sweep, Multi
 use Rattle.profile.specs.declared.Region.{Region}
 use Rattle.profile.specs.declared.Field.{Field}
 use Rattle.profile.specs.declared.Profile.{Profile}
-use Rattle.profile.proofs.Laws.{
-  by-cases,
-  and-intro,
-  passed,
-  all-passed,
-  chunks-ext,
-  chunks-all,
-  length-chunks,
-  getD-chunks,
-  length-ones,
-  getD-ones,
-}
-use Rattle.profile.proofs.Ranged.{region-present, region-absent}
+use Rattle.profile.proofs.Laws.{by-cases, and-intro, passed, all-passed, chunks-all, length-chunks, getD-chunks, length-ones, getD-ones}
+use Rattle.profile.proofs.Ranged.{field-count, region-present, region-absent}
+use Rattle.profile.proofs.Sizes.{length-field}
+use Rattle.profile.proofs.ByteRange.{mode-below}
 use Rattle.profile.proofs.Bodies.{replaceField, join-two, step-takes}
 
 mode-back : (m : Mode) → modeOf (modeNumber m) ≡ m
@@ -55,9 +46,7 @@ mode-back Sweep = refl
 mode-back Multiplier = refl
 
 mode-fits : (m : Mode) → leb (modeNumber m) 2 ≡ true
-mode-fits Plain = refl
-mode-fits Sweep = refl
-mode-fits Multiplier = refl
+mode-fits m = le-leb (modeNumber m) 2 (omega (arith, mode-below m))
 
 -- the body with n regions
 abbrev bodyWith : Field → ℕ → List ℕ
@@ -146,10 +135,10 @@ regions-back f n sized n≤7 past =
 module _ (f : Field) (sized : length (f .regions) ≡ 7) (present : f .present ≡ true) (range : all (fieldRange f) ≡ true)
     (regions : (i : ℕ) → i < 7 → regionIn f i ≡ true) where
   count-low : 1 ≤ f .count
-  count-low = leb-true 1 (f .count) (passed (fieldRange f) range .1 .1 .1 .1 .1 .1 .0)
+  count-low = field-count f range .0
 
   count-high : f .count ≤ 7
-  count-high = leb-true (f .count) 7 (passed (fieldRange f) range .1 .1 .1 .1 .1 .1 .1 .0)
+  count-high = field-count f range .1
 
   field-back : fieldFrom (bodyWith f (f .count)) ≡ f
   unfolding fieldFrom
@@ -180,7 +169,7 @@ module _ (f : Field) (sized : length (f .regions) ≡ 7) (present : f .present �
       (λ i h. region-fits f (f .count) i h (region-present f i (regions i (omega (arith, count-high))) h))))
 
   pub length-record : length (fieldRecord f) ≡ 4 + (10 + 6 * f .count)
-  length-record = omega (arith, length-chunks 6 (regionCount f) (regionBytes f) (λ i. refl), count-high)
+  length-record = omega (arith, length-field f, count-high)
 
   pub step-field : (rest : List ℕ) (p : Profile) → step (fieldRecord f ++ rest) p ≡ next (10 + 6 * f .count) (replaceField f p)
   unfolding allowed fits put

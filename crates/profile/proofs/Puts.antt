@@ -1,26 +1,24 @@
 -- A record whose values fit leaves a profile of the same array lengths, and in range where it was.
 -- One item changes, and the record's tests are its ranges; a register's two halves are bounded by its bytes.
 -- Assumes nothing.
-use mathlib.Core.Path.{_≡_, refl, sym, ap, _∙_}
-use mathlib.Core.Bool.{Bool, true, false, cond, not, _&&_, _||_}
-use mathlib.Core.List.{List, [], _∷_, _++_}
+use mathlib.Core.Path.{_≡_, ap, _∙_}
+use mathlib.Core.Bool.{Bool, true, false, cond}
+use mathlib.Core.List.{List, _∷_}
 use Prim.Native.Nat.{ℕ, _+_, _-_, _*_, _/_, _%_, _≤_, _<_}
 use native.Mathlib.Omega.{arith}
-use borrow.Author.Tests.{ltb-true, ltb-false, lt-ltb, le-ltb, leb-true, le-leb, eqb-true, eqb-false, eq-eqb, ne-eqb}
+use borrow.Author.Tests.{ltb-true, ltb-false, le-leb, eqb-true, eqb-false, eq-eqb, ne-eqb}
 use lib.Dec.{ltb, leb, eqb}
-use lib.ListN.{length, getD, set, replicate, length-set}
+use lib.ListN.{length, getD, set, length-set}
 use lib.Seq.{set-out, getD-set-same, getD-set-other}
-use Rattle.profile.specs.Lists.{all, chunks}
+use Rattle.profile.specs.Lists.{all}
 use Rattle.profile.specs.Bytes.{numberAt, dataAt}
 use Rattle.profile.specs.Values.{Sized, emptyRegion, emptySequence, emptyGate, emptyShutter}
-use Rattle.profile.specs.Geometry.{regionAt}
 use Rattle.profile.specs.Ranges.{
   halfLimit,
   sequenceRange,
   fieldRange,
   regionRange,
   gateRange,
-  subckRange,
   shutterRange,
   sequenceIn,
   regionIn,
@@ -56,10 +54,9 @@ use Rattle.profile.specs.declared.Region.{Region}
 use Rattle.profile.specs.declared.Sequence.{Sequence}
 use Rattle.profile.specs.declared.Gate.{Gate}
 use Rattle.profile.specs.declared.Shutter.{Shutter}
-use Rattle.profile.specs.declared.Field.{Field}
 use Rattle.profile.specs.declared.Profile.{Profile}
 use Rattle.profile.proofs.Laws.{by-cases, and-left, and-right, where-true, passed, all-passed, all-chunks}
-use Rattle.profile.proofs.Ranged.{Ranged, region-inside, region-past}
+use Rattle.profile.proofs.Ranged.{Ranged, field-count, region-inside, region-past}
 use Rattle.profile.proofs.ByteRange.{Bytes}
 use Rattle.profile.proofs.FieldBody.{padded-front, padded-past, length-padded}
 
@@ -98,21 +95,23 @@ stored P n l k v d new old i h =
 
 -- ---- kind 3
 
+field-tests : (b : List ℕ) → fieldFits b ≡ true → all (fieldRange (fieldFrom b)) ≡ true
+unfolding fieldFits
+field-tests b e =
+    let t = eqb (10 + 6 * numberAt b 8) (length b) ∷ fieldRange (fieldFrom b) in
+    all-passed (fieldRange (fieldFrom b)) (passed t (and-left (all t) _ e) .1)
+
 count-high : (b : List ℕ) → fieldFits b ≡ true → numberAt b 8 ≤ 7
-unfolding fieldFits fieldFrom
-count-high b e =
-    let r = passed _ (and-left (all (eqb (10 + 6 * numberAt b 8) (length b) ∷ fieldRange (fieldFrom b))) _ e) in
-    leb-true (numberAt b 8) 7 (r .1 .1 .1 .1 .1 .1 .1 .1 .0)
+unfolding fieldFrom
+count-high b e = field-count (fieldFrom b) (field-tests b e) .1
 
 length-regions : (b : List ℕ) → fieldFits b ≡ true → length (fieldFrom b .regions) ≡ 7
 unfolding fieldFrom
 length-regions b e = omega (arith, length-padded (numberAt b 8) (7 - numberAt b 8) (regionFrom b) emptyRegion, count-high b e)
 
 field-ranged : (b : List ℕ) → fieldFits b ≡ true → fieldIn (fieldFrom b) ≡ true
-unfolding fieldFits fieldFrom fieldIn
-field-ranged b e =
-    let r = passed _ (and-left (all (eqb (10 + 6 * numberAt b 8) (length b) ∷ fieldRange (fieldFrom b))) _ e) in
-    all-passed (fieldRange (fieldFrom b)) (r .1)
+unfolding fieldFrom fieldIn
+field-ranged b e = field-tests b e
 
 region-ranged : (b : List ℕ) → fieldFits b ≡ true → (i : ℕ) → i < 7 → regionIn (fieldFrom b) i ≡ true
 unfolding fieldFits fieldFrom

@@ -3,10 +3,9 @@
 -- Assumes nothing.
 use mathlib.Core.Path.{_≡_, refl, sym, ap, _∙_}
 use mathlib.Core.Bool.{Bool, true, false, cond, _&&_, false≢true}
-use mathlib.Core.List.{List, [], _∷_}
+use mathlib.Core.List.{[], _∷_}
 use Prim.Native.Nat.{ℕ, _<_, _≤_}
-use native.Mathlib.Omega.{arith}
-use borrow.Author.Tests.{eqb-true, lt-ltb, le-ltb}
+use borrow.Author.Tests.{eqb-true, leb-true, lt-ltb, le-ltb}
 use lib.Dec.{leb, eqb}
 use lib.ListN.{getD}
 use Rattle.profile.specs.Lists.{all, chunks}
@@ -43,7 +42,7 @@ use Rattle.profile.specs.declared.Gate.{Gate}
 use Rattle.profile.specs.declared.Subck.{Subck}
 use Rattle.profile.specs.declared.Shutter.{Shutter}
 use Rattle.profile.specs.declared.Profile.{Profile}
-use Rattle.profile.proofs.Laws.{and-left, and-right, and-intro, passed, all-passed, all-one, all-chunks, chunks-all}
+use Rattle.profile.proofs.Laws.{and-left, and-right, and-intro, passed, all-one, all-chunks, chunks-all}
 
 -- the test of a whole profile, item by item
 pub record Ranged (p : Profile) : Type 0 where
@@ -189,6 +188,12 @@ shutter-absent s e h =
       «off_line» = eqb-true (s .«off_line») 0 (z .1 .1 .1 .0) i;
       «off_pixel» = eqb-true (s .«off_pixel») 0 (z .1 .1 .1 .1 .0) i;
     }
+
+-- n = 1..7
+pub field-count : (f : Field) → all (fieldRange f) ≡ true → (1 ≤ f .count) × (f .count ≤ 7)
+field-count f e =
+    let r = passed (fieldRange f) e in
+    (leb-true 1 (f .count) (r .1 .1 .1 .1 .1 .1 .0), leb-true (f .count) 7 (r .1 .1 .1 .1 .1 .1 .1 .0))
 
 -- ---- regions
 

@@ -1,14 +1,14 @@
 -- What reading accepts is in range and accepted by the check; what it refuses leaves the empty profile.
 -- Each record taken keeps the array lengths and the ranges, and an answer of number 0 was judged.
 -- Assumes nothing.
-use mathlib.Core.Path.{_≡_, refl, sym, ap, _∙_}
-use mathlib.Core.Bool.{Bool, true, false, cond}
+use mathlib.Core.Path.{_≡_, refl, _∙_}
+use mathlib.Core.Bool.{true}
 use mathlib.Core.List.{List, [], _∷_}
-use Prim.Native.Nat.{ℕ, zero, suc, _+_, _≤_}
+use Prim.Native.Nat.{ℕ, zero, suc, _+_}
 use native.Mathlib.Omega.{arith}
 use borrow.Author.Tests.{eqb-true, eqb-false, eq-eqb, ne-eqb}
-use lib.Dec.{leb, eqb}
-use lib.ListN.{length, take, drop}
+use lib.Dec.{leb}
+use lib.ListN.{length}
 use Rattle.profile.specs.Lists.{all, chunks}
 use Rattle.profile.specs.Bytes.{numberAt}
 use Rattle.profile.specs.Values.{
@@ -23,14 +23,14 @@ use Rattle.profile.specs.Values.{
 }
 use Rattle.profile.specs.Ranges.{sequenceIn, regionIn, fieldIn, gateIn, subckIn, shutterIn, inRange}
 use Rattle.profile.specs.Rules.{judge, checkProfile}
-use Rattle.profile.specs.Script.{bodyOf, put, Step, stop, next, step, records, judged, readScript}
+use Rattle.profile.specs.Script.{bodyOf, Step, stop, next, step, records, judged, readScript}
 use Rattle.profile.specs.declared.Profile.{Profile}
 use Rattle.profile.specs.declared.Verdict.{Verdict}
 use Rattle.profile.specs.declared.ReadAnswer.{ReadAnswer}
-use Rattle.profile.proofs.Laws.{by-cases, cond-case}
+use Rattle.profile.proofs.Laws.{cond-case}
 use Rattle.profile.proofs.Checked.{check-judge, judge-number}
-use Rattle.profile.proofs.Takes.{Taken, step-taken, records-stop, records-done}
-use Rattle.profile.proofs.Ranged.{Ranged, ranged, ranged-in}
+use Rattle.profile.proofs.Takes.{step-taken}
+use Rattle.profile.proofs.Ranged.{ranged, ranged-in}
 use Rattle.profile.proofs.ByteRange.{Bytes, bytes-tail, bytes-part}
 use Rattle.profile.proofs.Puts.{put-sized, put-ranged}
 

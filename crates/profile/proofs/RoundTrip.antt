@@ -6,11 +6,10 @@ use mathlib.Core.Bool.{Bool, true, false, cond}
 use mathlib.Core.List.{List, [], _++_}
 use Prim.Native.Nat.{ℕ, suc, _+_, _*_, _≤_, _<_}
 use native.Mathlib.Omega.{arith}
-use borrow.Author.Tests.{le-leb, leb-true}
-use lib.Dec.{leb, eqb}
+use borrow.Author.Tests.{le-leb}
 use lib.Seq.{take-at, ext-getD}
 use lib.ListN.{length, getD, take, drop, set, replicate, getD-replicate, length-replicate}
-use Rattle.profile.specs.Lists.{all, chunks}
+use Rattle.profile.specs.Lists.{chunks}
 use Rattle.profile.specs.Values.{
   Sized,
   emptyRegion,
@@ -21,14 +20,11 @@ use Rattle.profile.specs.Values.{
   emptyTables,
   emptyProfile,
   accepted,
-  refused,
-  accepts,
   readAnswer,
 }
-use Rattle.profile.specs.Geometry.{regionAt}
 use Rattle.profile.specs.Ranges.{inRange, fieldIn, regionIn}
-use Rattle.profile.specs.Rules.{judge, checkProfile}
-use Rattle.profile.specs.Script.{next, step, records, readScript}
+use Rattle.profile.specs.Rules.{checkProfile}
+use Rattle.profile.specs.Script.{next, records, readScript}
 use Rattle.profile.specs.Writing.{
   registerChunk,
   sequenceRecord,
@@ -42,7 +38,6 @@ use Rattle.profile.specs.Writing.{
   shutterRecord,
   shutterChunk,
   writeScript,
-  writeVerdict,
   writeLeaves,
 }
 use Rattle.profile.specs.declared.Sequence.{Sequence}
@@ -112,10 +107,10 @@ module _ {A : Type 0} (n : ℕ) (d : A) (present : A → Bool) (written : ℕ �
 
 -- ---- the field that is absent
 
-absent-field : (f : Field) → f .present ≡ false → (f .count ≡ 0) → length (f .regions) ≡ 7 → fieldIn f ≡ true
+absent-field : (f : Field) → f .present ≡ false → length (f .regions) ≡ 7 → fieldIn f ≡ true
     → ((i : ℕ) → i < 7 → regionIn f i ≡ true) → f ≡ emptyField
 unfolding emptyField
-absent-field f e c l o r =
+absent-field f e l o r =
     let z = field-absent f o e in
     let g : f .regions ≡ replicate 7 emptyRegion =
     ext-getD emptyRegion (f .regions) (replicate 7 emptyRegion) l
@@ -197,7 +192,7 @@ module _ (p : Profile) (z : Sized p) (r : Ranged p) where
       (λ rest. step-field f (z .regions) e g (r .regions) rest p2))
       (λ e.
       ap (λ (f : Field). replaceField f p2)
-      (sym (absent-field (p .field) e (field-absent (p .field) (r .field) e .4) (z .regions) (r .field) (r .regions))))
+      (sym (absent-field (p .field) e (z .regions) (r .field) (r .regions))))
 
   takes-gates : Takes (chunks 5 (gateChunk (p .tables .gates))) p3 p4
   unfolding emptyTables
@@ -249,7 +244,7 @@ module _ (p : Profile) (z : Sized p) (r : Ranged p) where
 pub records-back : (p : Profile) → Sized p → inRange p ≡ true → records 0 0 (writeScript p) emptyProfile ≡ readAnswer accepted p
 records-back p z e = takes-all (writeScript p) emptyProfile p (takes-script p z (ranged p e))
 
--- THE ROUND TRIP: "reading what was written gives the same profile back"
+-- THE ROUND TRIP: reading what was written gives the same profile back
 pub round-trip : (p : Profile) → Sized p → checkProfile p ≡ accepted
     → readScript (writeScript p) ≡ record { verdict = accepted; profile = p }
 unfolding readScript

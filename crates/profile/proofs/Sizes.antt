@@ -2,18 +2,17 @@
 -- The registers take 960; an accepted profile has a field of at least one region, whose sequence is present.
 -- Assumes nothing.
 use mathlib.Core.Path.{_≡_, refl, sym, _∙_}
-use mathlib.Core.Bool.{Bool, true, false, cond}
-use mathlib.Core.List.{List, [], _∷_, _++_}
+use mathlib.Core.Bool.{Bool, true, cond}
+use mathlib.Core.List.{List, []}
 use Prim.Native.Nat.{ℕ, _+_, _*_, _≤_, _<_}
 use native.Mathlib.Omega.{arith}
 use borrow.Author.Tests.{leb-true}
-use lib.Dec.{leb}
 use lib.ListN.{length, getD, length-append}
-use Rattle.profile.specs.Lists.{all, chunks}
+use Rattle.profile.specs.Lists.{chunks}
 use Rattle.profile.specs.Values.{emptySequence, emptyGate, emptyShutter, accepted}
 use Rattle.profile.specs.Geometry.{regionCount, regionAt}
-use Rattle.profile.specs.Ranges.{fieldRange, regionRange}
-use Rattle.profile.specs.Rules.{firstBroken, rulesOf, judge, checkProfile}
+use Rattle.profile.specs.Ranges.{regionRange}
+use Rattle.profile.specs.Rules.{checkProfile}
 use Rattle.profile.specs.Writing.{
   registerChunk,
   sequenceRecord,
@@ -36,13 +35,13 @@ use Rattle.profile.specs.declared.Field.{Field}
 use Rattle.profile.specs.declared.Profile.{Profile}
 use Rattle.profile.proofs.Laws.{cond-case, passed, length-chunks, length-chunks-le, chunk-room}
 use Rattle.profile.proofs.Checked.{check-range, check-judge, judge-field, judge-rules, sequence-given}
-use Rattle.profile.proofs.Ranged.{ranged, field-present, region-present}
+use Rattle.profile.proofs.Ranged.{ranged, field-present, field-count, region-present}
 
 -- what is written only where b holds is at most so long
 chosen-le : (b : Bool) (s : List ℕ) (n : ℕ) → length s ≤ n → length (cond b s []) ≤ n
 chosen-le b s n h = cond-case (λ (l : List ℕ). length l ≤ n) b s [] (λ e. h) (λ e. omega arith)
 
-length-field : (f : Field) → length (fieldRecord f) ≡ 14 + 6 * regionCount f
+pub length-field : (f : Field) → length (fieldRecord f) ≡ 14 + 6 * regionCount f
 length-field f = omega (arith, length-chunks 6 (regionCount f) (regionBytes f) (λ i. refl))
 
 -- the parts' lengths add up
@@ -54,7 +53,15 @@ length-script : (p : Profile)
     + length (subckChunk (p .tables .subck))
     + length (chunks 2 (shutterChunk (p .tables .shutters)))
 unfolding writeScript
-length-script p = rw (length-append, length-append, length-append, length-append, length-append, length-chunks 8 120 (registerChunk (p .tables .registers)) (λ i. refl))
+length-script p =
+    rw (
+      length-append,
+      length-append,
+      length-append,
+      length-append,
+      length-append,
+      length-chunks 8 120 (registerChunk (p .tables .registers)) (λ i. refl),
+    )
 
 sequence-le : (ss : List Sequence) (k : ℕ) → length (sequenceChunk ss k) ≤ 18
 sequence-le ss k = chosen-le (getD ss k emptySequence .present) (sequenceRecord k (getD ss k emptySequence)) 18 (omega arith)
@@ -96,7 +103,7 @@ script-low p e =
     let j = sym (check-judge p (check-range p e)) ∙ e in
     let h = judge-field p j in
     let o = sym (judge-rules p h) ∙ j in
-    let c : 1 ≤ f .count = leb-true 1 (f .count) (passed (fieldRange f) (field-present f (r .field) h) .1 .1 .1 .1 .1 .1 .0) in
+    let c = field-count f (field-present f (r .field) h) .0 in
     let g = passed (regionRange (regionAt f 0)) (region-present f 0 (r .regions 0 (omega arith)) c) in
     let k = leb-true (regionAt f 0 .sequence) 9 (g .1 .0) in
     omega (

@@ -14,7 +14,7 @@ use lib.Seq.{length-take-le}
 use Rattle.profile.specs.Lists.{chunks}
 use Rattle.profile.specs.Bytes.{numberAt}
 use Rattle.profile.specs.Values.{refused, accepted, readAnswer}
-use Rattle.profile.specs.Script.{known, allowed, fits, put, bodyOf, Step, stop, next, step, records}
+use Rattle.profile.specs.Script.{known, allowed, fits, put, bodyOf, stop, next, step, records}
 use Rattle.profile.specs.declared.Profile.{Profile}
 use Rattle.profile.proofs.Laws.{by-cases}
 
@@ -65,13 +65,13 @@ step-next s p len q e = let t = step-taken s p len q e in omega arith
 
 -- ---- reading on
 
-records-skip : (ys rest : List ℕ) (at : ℕ) (p : Profile) → records (length ys) at (ys ++ rest) p ≡ records 0 (at + length ys) rest p
+pub records-skip : (ys rest : List ℕ) (at : ℕ) (p : Profile) → records (length ys) at (ys ++ rest) p ≡ records 0 (at + length ys) rest p
 unfolding records
 records-skip [] rest at p = rw add-zero
 records-skip (y ∷ ys) rest at p = records-skip ys rest (at + 1) p ∙ ap (λ (n : ℕ). records 0 n rest p) (omega arith)
 
 -- a record that is read, with whatever follows it, is passed over
-read-record : (r rest : List ℕ) (at len : ℕ) (p q : Profile) → length r ≡ 4 + len → step (r ++ rest) p ≡ next len q
+pub read-record : (r rest : List ℕ) (at len : ℕ) (p q : Profile) → length r ≡ 4 + len → step (r ++ rest) p ≡ next len q
     → records 0 at (r ++ rest) p ≡ records 0 (at + length r) rest q
 unfolding records
 read-record [] rest at len p q e s = absurd (omega arith)
@@ -96,8 +96,7 @@ records-stop x xs at n p e = rw (e, records)
 
 pub records-done : (skip at : ℕ) (p : Profile) → records skip at [] p ≡ readAnswer accepted p
 unfolding records
-records-done zero at p = refl
-records-done (suc skip) at p = refl
+records-done skip at p = refl
 
 -- ---- a piece of a script that takes p to q
 
