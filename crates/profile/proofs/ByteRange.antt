@@ -42,8 +42,8 @@ use Rattle.profile.specs.declared.Subck.{Subck}
 use Rattle.profile.specs.declared.Shutter.{Shutter}
 use Rattle.profile.specs.declared.Profile.{Profile}
 use Rattle.profile.proofs.Laws.{by-cases, or-cases, cond-case, passed}
-use Rattle.profile.proofs.Ranged.{
-  ranged,
+use Rattle.profile.proofs.Items.{
+  items,
   sequence-present,
   gate-present,
   subck-present,
@@ -171,7 +171,7 @@ bytes-field f e r =
 pub bytes-fit : (p : Profile) → inRange p ≡ true → Bytes (writeScript p)
 unfolding writeScript
 bytes-fit p e =
-    let r = ranged p e in
+    let r = items p e in
     let t = p .tables in
     let sequence : ℕ → Sequence = λ k. getD (t .sequences) k emptySequence in
     let gate : ℕ → Gate = λ k. getD (t .gates) k emptyGate in

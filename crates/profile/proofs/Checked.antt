@@ -8,7 +8,7 @@ use Prim.Native.Nat.{ℕ, _<_}
 use native.Mathlib.Omega.{arith}
 use Rattle.profile.specs.Lists.{chunks}
 use Rattle.profile.specs.Values.{accepted, refused}
-use Rattle.profile.specs.Geometry.{regionCount, sequenceAt}
+use Rattle.profile.specs.Geometry.{regionCount}
 use Rattle.profile.specs.Ranges.{inRange}
 use Rattle.profile.specs.Rules.{
   firstBroken,
@@ -29,17 +29,7 @@ use Rattle.profile.specs.declared.Field.{Field}
 use Rattle.profile.specs.declared.Profile.{Profile}
 use Rattle.profile.specs.declared.Verdict.{Verdict}
 use Rattle.profile.proofs.Laws.{by-cases}
-use Rattle.profile.proofs.Entries.{
-  Numbered,
-  Hold,
-  entries-hold,
-  number-accepted,
-  numbered-append,
-  numbered-chunks,
-  hold-left,
-  hold-right,
-  hold-chunk,
-}
+use Rattle.profile.proofs.Entries.{Numbered, number-accepted, numbered-append, numbered-chunks}
 
 refused-accepted : {A : Type 0} (n at : ℕ) → 0 < n → refused n at ≡ accepted → A
 refused-accepted n at h e = absurd (omega (arith, ap (λ (v : Verdict). v .number) e))
@@ -109,31 +99,6 @@ module _ (t : Tables) (f : Field) where
       (numbered-chunks 5 (gateEntries t f) numbered-gates))
       (omega arith, tt))
       (numbered-chunks 2 (shutterEntries t f) numbered-shutters)
-
-  pub rules-hold : firstBroken (rulesOf t f) ≡ accepted → Hold (rulesOf t f)
-  rules-hold e = entries-hold (rulesOf t f) numbered-rules e
-
-  -- 8 to 13 of each region
-  pub region-holds : Hold (rulesOf t f) → (i : ℕ) → i < regionCount f → Hold (regionEntries t f i)
-  unfolding rulesOf
-  region-holds e i h =
-      let n = regionCount f in
-      let a = chunks n (orderEntries f) in
-      let b = chunks n (regionEntries t f) in
-      let c = lineEntries t f in
-      let d = chunks 5 (gateEntries t f) in
-      hold-chunk n (regionEntries t f)
-      (hold-right a b
-      (hold-left (a ++ b) c
-      (hold-left (a ++ b ++ c) d
-      (hold-left (a ++ b ++ c ++ d) (subckEntries t)
-      (hold-left (a ++ b ++ c ++ d ++ subckEntries t) (chunks 2 (shutterEntries t f)) e)))))
-      i h
-
-  -- 8: the sequence of each region is present
-  pub sequence-given : firstBroken (rulesOf t f) ≡ accepted → (i : ℕ) → i < regionCount f → sequenceAt t f i .present ≡ true
-  unfolding regionEntries
-  sequence-given e i h = region-holds (rules-hold e) i h .0
 
 -- a judgement of number 0 is `accepted`: there is no other with that number
 pub judge-number : (p : Profile) → judge p .number ≡ 0 → judge p ≡ accepted

@@ -2,11 +2,7 @@
 -- An entry that answers number 0 would look like none, so the laws that need it ask that each has a number (`Numbered`).
 -- Assumes nothing.
 use mathlib.Core.Path.{_≡_, refl, ap, _∙_}
-<<<<<<< HEAD
-use mathlib.Core.Bool.{Bool, true, false}
-=======
 use mathlib.Core.Bool.{true}
->>>>>>> roundtrip
 use mathlib.Core.List.{List, [], _∷_, _++_}
 use Prim.Native.Nat.{ℕ, zero, suc, _≤_, _<_}
 use native.Mathlib.Omega.{arith}
@@ -41,8 +37,6 @@ unfolding firstBroken
 hold-accepted [] h = refl
 hold-accepted (e ∷ es) h = rw (h .0) (hold-accepted es (h .1))
 
-<<<<<<< HEAD
-=======
 -- a number of 0 says that none is broken
 pub number-accepted : (es : List Entry) → Numbered es → firstBroken es .number ≡ 0 → firstBroken es ≡ accepted
 unfolding firstBroken
@@ -52,15 +46,12 @@ number-accepted (x ∷ es) n e =
     (λ h. rw h (number-accepted es (n .1) (rw h at e)))
     (λ h. let z = rw h at e in absurd (omega (arith, n .0)))
 
->>>>>>> roundtrip
 -- ---- two lists, one after the other
 
 pub numbered-append : (a b : List Entry) → Numbered a → Numbered b → Numbered (a ++ b)
 numbered-append [] b n m = m
 numbered-append (e ∷ a) b n m = (n .0, numbered-append a b (n .1) m)
 
-<<<<<<< HEAD
-=======
 pub hold-left : (a b : List Entry) → Hold (a ++ b) → Hold a
 hold-left [] b h = tt
 hold-left (e ∷ a) b h = (h .0, hold-left a b (h .1))
@@ -69,7 +60,6 @@ pub hold-right : (a b : List Entry) → Hold (a ++ b) → Hold b
 hold-right [] b h = h
 hold-right (e ∷ a) b h = hold-right a b (h .1)
 
->>>>>>> roundtrip
 pub fine-then : (a b : List Entry) → Numbered a → firstBroken a ≡ accepted → firstBroken (a ++ b) ≡ firstBroken b
 unfolding firstBroken
 fine-then [] b n e = refl
@@ -98,8 +88,6 @@ unfolding chunks
 numbered-chunks zero f h = tt
 numbered-chunks (suc n) f h = numbered-append (chunks n f) (f n) (numbered-chunks n f h) (h n)
 
-<<<<<<< HEAD
-=======
 pub hold-chunk : (n : ℕ) (f : ℕ → List Entry) → Hold (chunks n f) → (i : ℕ) → i < n → Hold (f i)
 unfolding chunks
 hold-chunk zero f h i l = absurd (omega arith)
@@ -108,7 +96,6 @@ hold-chunk (suc n) f h i l =
     (λ q. rw (eqb-true i n q) (hold-right (chunks n f) (f n) h))
     (λ q. hold-chunk n f (hold-left (chunks n f) (f n) h) i (omega (arith, eqb-false i n q)))
 
->>>>>>> roundtrip
 pub fine-chunk : (n : ℕ) (f : ℕ → List Entry) → ((i : ℕ) → Numbered (f i)) → firstBroken (chunks n f) ≡ accepted
     → (i : ℕ) → i < n → firstBroken (f i) ≡ accepted
 unfolding chunks

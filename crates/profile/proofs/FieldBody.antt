@@ -35,7 +35,7 @@ use Rattle.profile.specs.declared.Region.{Region}
 use Rattle.profile.specs.declared.Field.{Field}
 use Rattle.profile.specs.declared.Profile.{Profile}
 use Rattle.profile.proofs.Laws.{by-cases, and-intro, passed, all-passed, chunks-all, length-chunks, getD-chunks, length-ones, getD-ones}
-use Rattle.profile.proofs.Ranged.{field-count, region-present, region-absent}
+use Rattle.profile.proofs.Items.{field-count, region-present, region-absent}
 use Rattle.profile.proofs.Sizes.{length-field}
 use Rattle.profile.proofs.ByteRange.{mode-below}
 use Rattle.profile.proofs.Bodies.{replaceField, join-two, step-takes}

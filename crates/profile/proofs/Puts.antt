@@ -56,7 +56,7 @@ use Rattle.profile.specs.declared.Gate.{Gate}
 use Rattle.profile.specs.declared.Shutter.{Shutter}
 use Rattle.profile.specs.declared.Profile.{Profile}
 use Rattle.profile.proofs.Laws.{by-cases, and-left, and-right, where-true, passed, all-passed, all-chunks}
-use Rattle.profile.proofs.Ranged.{Ranged, field-count, region-inside, region-past}
+use Rattle.profile.proofs.Items.{Items, field-count, region-inside, region-past}
 use Rattle.profile.proofs.ByteRange.{Bytes}
 use Rattle.profile.proofs.FieldBody.{padded-front, padded-past, length-padded}
 
@@ -260,9 +260,9 @@ put-sized kind b p z =
       regions = z .regions;
     })
 
-pub put-ranged : (kind : ℕ) (b : List ℕ) (p : Profile) → Bytes b → Ranged p → fits kind b ≡ true → Ranged (put kind b p)
-put-ranged kind b p bytes r =
-    put-case Ranged kind b p
+pub put-items : (kind : ℕ) (b : List ℕ) (p : Profile) → Bytes b → Items p → fits kind b ≡ true → Items (put kind b p)
+put-items kind b p bytes r =
+    put-case Items kind b p
     (λ f.
     record {
       halves = halves-ranged b bytes f (p .tables .registers) (r .halves);

@@ -30,9 +30,9 @@ use Rattle.profile.specs.declared.ReadAnswer.{ReadAnswer}
 use Rattle.profile.proofs.Laws.{cond-case}
 use Rattle.profile.proofs.Checked.{check-judge, judge-number}
 use Rattle.profile.proofs.Takes.{step-taken}
-use Rattle.profile.proofs.Ranged.{ranged, ranged-in}
+use Rattle.profile.proofs.Items.{items, items-in}
 use Rattle.profile.proofs.ByteRange.{Bytes, bytes-tail, bytes-part}
-use Rattle.profile.proofs.Puts.{put-sized, put-ranged}
+use Rattle.profile.proofs.Puts.{put-sized, put-items}
 
 -- ---- one record taken
 
@@ -44,8 +44,8 @@ step-sized s p len q z e =
 pub step-in : (s : List ℕ) (p : Profile) (len : ℕ) (q : Profile) → Bytes s → inRange p ≡ true → step s p ≡ next len q → inRange q ≡ true
 step-in s p len q b r e =
     let t = step-taken s p len q e in
-    let w = put-ranged (numberAt s 2) (bodyOf s) p (bytes-part s (numberAt s 0) 4 b) (ranged p r) (t .values) in
-    ranged-in q (rw (t .gives) at w)
+    let w = put-items (numberAt s 2) (bodyOf s) p (bytes-part s (numberAt s 0) 4 b) (items p r) (t .values) in
+    items-in q (rw (t .gives) at w)
 
 -- ---- all records
 

@@ -50,9 +50,9 @@ use Rattle.profile.proofs.Checked.{check-range, check-judge}
 use Rattle.profile.proofs.Sizes.{script-high}
 use Rattle.profile.proofs.Rebuild.{mix, mix-set, mix-pair, mix-same, mix-all}
 use Rattle.profile.proofs.Takes.{Takes, takes-record, takes-then, takes-cond, takes-chunks, takes-all}
-use Rattle.profile.proofs.Ranged.{
-  Ranged,
-  ranged,
+use Rattle.profile.proofs.Items.{
+  Items,
+  items,
   sequence-present,
   sequence-absent,
   gate-present,
@@ -130,7 +130,7 @@ absent-field f e l o r =
 
 -- ---- one record after the other
 
-module _ (p : Profile) (z : Sized p) (r : Ranged p) where
+module _ (p : Profile) (z : Sized p) (r : Items p) where
   -- the profile after the registers, the sequences, the field, the gates, SUBCK
   abbrev p1 : Profile
   p1 = replaceRegisters (p .tables .registers) emptyProfile
@@ -242,7 +242,7 @@ module _ (p : Profile) (z : Sized p) (r : Ranged p) where
       takes-shutters
 
 pub records-back : (p : Profile) → Sized p → inRange p ≡ true → records 0 0 (writeScript p) emptyProfile ≡ readAnswer accepted p
-records-back p z e = takes-all (writeScript p) emptyProfile p (takes-script p z (ranged p e))
+records-back p z e = takes-all (writeScript p) emptyProfile p (takes-script p z (items p e))
 
 -- THE ROUND TRIP: reading what was written gives the same profile back
 pub round-trip : (p : Profile) → Sized p → checkProfile p ≡ accepted

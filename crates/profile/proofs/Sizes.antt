@@ -34,8 +34,9 @@ use Rattle.profile.specs.declared.Shutter.{Shutter}
 use Rattle.profile.specs.declared.Field.{Field}
 use Rattle.profile.specs.declared.Profile.{Profile}
 use Rattle.profile.proofs.Laws.{cond-case, passed, length-chunks, length-chunks-le, chunk-room}
-use Rattle.profile.proofs.Checked.{check-range, check-judge, judge-field, judge-rules, sequence-given}
-use Rattle.profile.proofs.Ranged.{ranged, field-present, field-count, region-present}
+use Rattle.profile.proofs.Checked.{check-range, check-judge, judge-field, judge-rules}
+use Rattle.profile.proofs.Accepted.{rules-say}
+use Rattle.profile.proofs.Items.{items, field-present, field-count, region-present}
 
 -- what is written only where b holds is at most so long
 chosen-le : (b : Bool) (s : List ℕ) (n : ℕ) → length s ≤ n → length (cond b s []) ≤ n
@@ -99,7 +100,7 @@ pub script-low : (p : Profile) → checkProfile p ≡ accepted → 998 ≤ lengt
 script-low p e =
     let t = p .tables in
     let f = p .field in
-    let r = ranged p (check-range p e) in
+    let r = items p (check-range p e) in
     let j = sym (check-judge p (check-range p e)) ∙ e in
     let h = judge-field p j in
     let o = sym (judge-rules p h) ∙ j in
@@ -109,7 +110,7 @@ script-low p e =
     omega (
       arith,
       length-script p,
-      sequence-written (t .sequences) (regionAt f 0 .sequence) (omega arith) (sequence-given t f o 0 (omega arith)),
+      sequence-written (t .sequences) (regionAt f 0 .sequence) (omega arith) (rules-say t f .0 o .rule-8 0 (omega arith)),
       field-written f h c,
     )
 

@@ -45,7 +45,7 @@ use Rattle.profile.specs.declared.Profile.{Profile}
 use Rattle.profile.proofs.Laws.{and-left, and-right, and-intro, passed, all-one, all-chunks, chunks-all}
 
 -- the test of a whole profile, item by item
-pub record Ranged (p : Profile) : Type 0 where
+pub record Items (p : Profile) : Type 0 where
   pub halves : (i : ℕ) → i < 240 → leb (getD (p .tables .registers) i 0) (halfLimit i) ≡ true
   pub sequences : (k : ℕ) → k < 10 → sequenceIn (getD (p .tables .sequences) k emptySequence) ≡ true
   pub gates : (k : ℕ) → k < 5 → gateIn (getD (p .tables .gates) k emptyGate) ≡ true
@@ -61,9 +61,9 @@ ones-at n f e i h = sym (all-one (f i)) ∙ all-chunks n (λ i. f i ∷ []) e i 
 ones-all : (n : ℕ) (f : ℕ → Bool) → ((i : ℕ) → i < n → f i ≡ true) → all (chunks n (λ i. f i ∷ [])) ≡ true
 ones-all n f h = chunks-all n (λ i. f i ∷ []) (λ i l. all-one (f i) ∙ h i l)
 
-pub ranged : (p : Profile) → inRange p ≡ true → Ranged p
+pub items : (p : Profile) → inRange p ≡ true → Items p
 unfolding inRange
-ranged p e =
+items p e =
     let t = p .tables in
     let h = all (chunks 240 (halfTests (t .registers))) in
     let s = all (chunks 10 (sequenceTests (t .sequences))) in
@@ -87,9 +87,9 @@ ranged p e =
       regions = ones-at 7 (regionIn (p .field)) (and-right (h && s && g && k && u && f) r e);
     }
 
-pub ranged-in : (p : Profile) → Ranged p → inRange p ≡ true
+pub items-in : (p : Profile) → Items p → inRange p ≡ true
 unfolding inRange
-ranged-in p r =
+items-in p r =
     let t = p .tables in
     let s : all (chunks 240 (halfTests (t .registers))) ≡ true =
     ones-all 240 (λ i. leb (getD (t .registers) i 0) (halfLimit i)) (r .halves) in
