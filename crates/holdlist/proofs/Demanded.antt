@@ -2,12 +2,13 @@
 -- A list plays the field exactly where it plays the field's words; what compiling answers is told by its tests, case by case.
 -- Assumes nothing.
 use Prim.Native.Nat.{ℕ, _≤_, _<_, _^_, min}
+use native.Mathlib.Nat.{le-trans}
 use native.Mathlib.Omega.{arith}
 use mathlib.Core.Path.{_≡_, refl, sym, ap, _∙_}
 use mathlib.Core.List.{List}
 use mathlib.Core.Bool.{true, false, false≢true}
 use lib.ListN.{length, getD, List·getD-eq-default}
-use lib.Dec.{ltb, leb}
+use lib.Dec.{ltb, leb, lit≤}
 use borrow.Author.Tests.{le-leb, lt-leb, leb-true, leb-false, ltb-true, ltb-false, eqb-false}
 use Rattle.profile.specs.Lists.{over}
 use Rattle.profile.specs.Values.{accepted, refused, accepts}
@@ -17,6 +18,10 @@ use Rattle.profile.specs.declared.Tables.{Tables}
 use Rattle.profile.specs.declared.Field.{Field}
 use Rattle.profile.specs.declared.Profile.{Profile}
 use Rattle.profile.proofs.Laws.{by-cases}
+use Rattle.profile.proofs.Checked.{check-range}
+use Rattle.profile.proofs.Accepted.{accepted-exactly}
+use Rattle.profile.proofs.Lines.{pixels-most}
+use Rattle.level.proofs.Words.{word-small, field-words-length, field-word, place-below, line-at-place, pixel-at-place}
 use Rattle.level.specs.Line.{lineOf}
 use Rattle.level.specs.Word.{wordOf}
 use Rattle.level.specs.Place.{lineAt, pixelAt, placeOf}
@@ -230,3 +235,34 @@ pub compile-shows :
     (placeOf (p .tables) (p .field) line pixel)
     ≡ shown (wordOf (lineOf (p .tables) (p .field) line) pixel)
 compile-shows p cs ws w s z = plays-pixel (p .tables) (p .field) s _ _ _ (compile-plays p cs ws w z)
+
+-- ---- every field
+
+pub worded : (t : Tables) (f : Field) → Worded t f
+worded t f =
+    record {
+      count = field-words-length t f;
+      at = field-word t f;
+      small = λ n h. le-trans (word-small (lineOf t f (lineAt t f n)) (pixelAt t f n)) (lit≤ tt);
+    }
+
+pub placed : (t : Tables) (f : Field) → Placed t f
+placed t f = record { below = place-below t f; line = line-at-place t f; pixel = pixel-at-place t f }
+
+-- Demand 3, whole: for every accepted profile and any lent lists
+pub demand-3 :
+    (p : Profile) (cs ws : List ℕ) → checkProfile p ≡ accepted →
+    Demand (p .tables) (p .field) cs ws (compileAnswer p (roomOf cs ws)) (compileCounts p (roomOf cs ws) cs) (compileWords p (roomOf cs ws) ws)
+demand-3 p cs ws e =
+    let w = accepted-exactly p .0 e in
+    let few = pixels-most p (check-range p e) (w .1) in
+    compile-meets p cs ws (worded (p .tables) (p .field)) (omega arith) (ap accepts e)
+
+-- and each line's pixel shows its word
+pub demand-3-pixels :
+    (p : Profile) (cs ws : List ℕ) → compileAnswer p (roomOf cs ws) .verdict .number ≡ 0 →
+    (line pixel : ℕ) → hasPixel (p .tables) (p .field) line pixel ≡ true →
+    playAnswer (compileCounts p (roomOf cs ws) cs) (compileWords p (roomOf cs ws) ws) (compileAnswer p (roomOf cs ws) .steps)
+    (placeOf (p .tables) (p .field) line pixel)
+    ≡ shown (wordOf (lineOf (p .tables) (p .field) line) pixel)
+demand-3-pixels p cs ws = compile-shows p cs ws (worded (p .tables) (p .field)) (placed (p .tables) (p .field))

@@ -1,8 +1,8 @@
 -- A hold list is a list of counts beside a list of words: step i shows words[i] for counts[i] positions.
 -- Assumes nothing.
-use Prim.Native.Nat.{ℕ, zero, suc, _-_}
+use Prim.Native.Nat.{ℕ, _-_}
 use mathlib.Core.List.{List, [], _∷_, _++_}
-use mathlib.Core.Bool.{Bool, cond, _&&_}
+use mathlib.Core.Bool.{cond, _&&_}
 use lib.ListN.{length, take, replicate}
 use lib.Dec.{ltb, leb}
 use Rattle.profile.specs.Values.{accepted, refused}

@@ -1,8 +1,8 @@
 -- Where everything acts on one line of a field, worked out from the tables, the field and the line's number.
 -- Assumes nothing.
 use Prim.Native.Nat.{ℕ, _+_}
-use mathlib.Core.List.{List, [], _∷_, map}
-use mathlib.Core.Bool.{Bool, true, false, cond, not, _&&_, _||_}
+use mathlib.Core.List.{List, [], _∷_}
+use mathlib.Core.Bool.{Bool, false, cond, _&&_, _||_}
 use lib.ListN.{getD, replicate}
 use lib.Dec.{ltb, leb, eqb}
 use Rattle.profile.specs.Values.{emptyGate, emptyShutter}
@@ -18,7 +18,6 @@ use Rattle.profile.specs.declared.Subck.{Subck}
 use Rattle.profile.specs.declared.Shutter.{Shutter}
 use Rattle.profile.specs.declared.Tables.{Tables}
 use Rattle.profile.specs.declared.Field.{Field}
-use Rattle.level.specs.declared.Mask.{Mask}
 use Rattle.level.specs.declared.Pulse.{Pulse}
 use Rattle.level.specs.declared.Span.{Span}
 use Rattle.level.specs.declared.Line.{Line}

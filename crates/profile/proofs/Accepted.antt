@@ -6,7 +6,7 @@ use native.Mathlib.Nat.{add-sub-cancel}
 use native.Mathlib.Omega.{arith}
 use mathlib.Core.Path.{_≡_, refl, sym, ap, _∙_}
 use mathlib.Core.Logic.{_↔_, _⊎_, inl, inr}
-use mathlib.Core.Bool.{Bool, true, false, cond, not, _&&_, _||_, false≢true}
+use mathlib.Core.Bool.{Bool, true, false, cond, not, _||_}
 use mathlib.Core.List.{List, [], _∷_, _++_, map}
 use lib.ListN.{getD}
 use lib.Dec.{ltb, eqb, lit≤}
@@ -14,38 +14,14 @@ use borrow.Author.Tests.{ltb-true, eqb-true, lt-ltb, eq-eqb, ne-eqb}
 use Rattle.profile.specs.Lists.{all, chunks}
 use Rattle.profile.specs.Values.{accepted, refused, emptyGate, emptyShutter}
 use Rattle.profile.specs.Geometry.{regionCount, regionAt, firstLine, sequenceAt, patternAt, lineLength, regionSize, gateLines}
-use Rattle.profile.specs.Rules.{
-  Entry,
-  rule,
-  firstBroken,
-  startsRight,
-  togglesRight,
-  maskRight,
-  countsRight,
-  endsRight,
-  hasSecond,
-  secondOf,
-  secondRight,
-  orderEntries,
-  toggleEntries,
-  runEntries,
-  regionEntries,
-  lineEntries,
-  gateEntries,
-  subckEntries,
-  shutterEntries,
-  rulesOf,
-  judge,
-  checkProfile,
-}
+use Rattle.profile.specs.Rules.{Entry, rule, firstBroken, startsRight, maskRight, countsRight, endsRight, hasSecond, secondOf, secondRight, orderEntries, toggleEntries, runEntries, regionEntries, lineEntries, gateEntries, subckEntries, shutterEntries, rulesOf, judge, checkProfile}
 use Rattle.profile.specs.Ranges.{inRange}
-use Rattle.profile.specs.Obeys.{Rises, Masks, Counts, Ends, Seconds, Shuts, Obeys}
+use Rattle.profile.specs.Obeys.{Ranged, Rises, Masks, Counts, Ends, Seconds, Shuts, Obeys}
 use Rattle.profile.specs.declared.Mode.{Mode}
 use Rattle.profile.specs.declared.Tables.{Tables}
 use Rattle.profile.specs.declared.Field.{Field}
 use Rattle.profile.specs.declared.Profile.{Profile}
 use Rattle.profile.specs.declared.Verdict.{Verdict}
-use Rattle.profile.proofs.Laws.{by-cases, and-left, and-right, and-intro}
 use Rattle.profile.proofs.Entries.{
   Numbered,
   Hold,
@@ -59,23 +35,10 @@ use Rattle.profile.proofs.Entries.{
   fine-chunk,
   chunks-fine,
 }
-use Rattle.profile.proofs.Reflects.{
-  Says,
-  says-lt,
-  says-eq,
-  says-ne,
-  says-and,
-  says-where,
-  says-one,
-  says-toggles,
-  says-mask,
-  says-counts,
-  says-ends,
-  says-second,
-  says-gate,
-  says-subck,
-  says-shutter,
-}
+use Rattle.profile.proofs.Checked.{check-range, check-judge, judge-field, judge-rules, numbered-region}
+use Rattle.profile.proofs.Carried.{says-range}
+use Rattle.profile.proofs.Lines.{Ordered, regions-some}
+use Rattle.profile.proofs.Reflects.{Says, says-lt, says-ne, says-and, says-where, says-one, says-toggles, says-mask, says-counts, says-ends, says-second, says-gate, says-subck, says-shutter}
 
 -- ---- the first entry that does not hold
 
@@ -120,15 +83,6 @@ entriesOf p = rule 5 0 (inRange p) ∷ rule 6 0 (p .field .present) ∷ rulesOf 
 pub check-entries : (p : Profile) → checkProfile p ≡ firstBroken (entriesOf p)
 unfolding checkProfile judge firstBroken entriesOf
 check-entries p = refl
-
--- ---- every entry has a number
-
-region-numbered : (t : Tables) (f : Field) (i : ℕ) → Numbered (regionEntries t f i)
-unfolding regionEntries
-region-numbered t f i = (
-  lit≤ tt,
-  (lit≤ tt, numbered-append (chunks 6 (toggleEntries t f i)) (runEntries t f i) (numbered-chunks 6 (toggleEntries t f i) (λ k. (lit≤ tt, tt))) (lit≤ tt, (lit≤ tt, (lit≤ tt, tt)))),
-)
 
 -- ---- each part of the list
 
@@ -268,7 +222,7 @@ module _ (t : Tables) (f : Field) where
   order-numbered = numbered-chunks (regionCount f) (orderEntries f) (λ i. (lit≤ tt, tt))
 
   regions-numbered : Numbered (order ++ regions)
-  regions-numbered = numbered-append order regions order-numbered (numbered-chunks (regionCount f) (regionEntries t f) (region-numbered t f))
+  regions-numbered = numbered-append order regions order-numbered (numbered-chunks (regionCount f) (regionEntries t f) (numbered-region t f))
 
   lines-numbered : Numbered (order ++ regions ++ lineEntries t f)
   unfolding lineEntries
@@ -287,7 +241,7 @@ module _ (t : Tables) (f : Field) where
       (λ i. says-fine _ _ (refused 7 i) (lit≤ tt) (says-starts f i))
 
   regions-say : (firstBroken regions ≡ accepted) ↔ ((i : ℕ) → i < regionCount f → RegionObeys t f i)
-  regions-say = fine-each (regionCount f) (regionEntries t f) (λ i. RegionObeys t f i) (region-numbered t f) (region-says t f)
+  regions-say = fine-each (regionCount f) (regionEntries t f) (λ i. RegionObeys t f i) (numbered-region t f) (region-says t f)
 
   abbrev GateObeys : ℕ → Type 0
   GateObeys k =
@@ -376,3 +330,39 @@ module _ (t : Tables) (f : Field) where
 
   pub rules-say : (firstBroken (rulesOf t f) ≡ accepted) ↔ Obeys t f
   rules-say = (rules-obeyed, obeyed-rules)
+
+-- ---- the whole check
+
+-- "A profile is accepted exactly when it breaks no rule of 01": it is in range, has a field, and obeys
+abbrev pub Obedient : Profile → Type 0
+Obedient p = Ranged p × (p .field .present ≡ true) × Obeys (p .tables) (p .field)
+
+pub accepted-exactly : (p : Profile) → (checkProfile p ≡ accepted) ↔ Obedient p
+accepted-exactly p = (to, from)
+  where
+    to : checkProfile p ≡ accepted → Obedient p
+    to e =
+        let r = check-range p e in
+        let j = sym (check-judge p r) ∙ e in
+        let h = judge-field p j in
+        (says-range p .0 r, h, rules-say (p .tables) (p .field) .0 (sym (judge-rules p h) ∙ j))
+
+    from : Obedient p → checkProfile p ≡ accepted
+    from w =
+        check-judge p (says-range p .1 (w .0)) ∙ judge-rules p (w .1) ∙ rules-say (p .tables) (p .field) .1 (w .2)
+
+-- "else the first broken rule in the stated order is named": 5, 6, then 7 to 17
+pub refused-first : (p : Profile) → (checkProfile p ≡ accepted → ⊥) → First (entriesOf p) (checkProfile p)
+refused-first p n = go (first-broken (entriesOf p))
+  where
+    go : (Hold (entriesOf p) × (firstBroken (entriesOf p) ≡ accepted)) ⊎ First (entriesOf p) (firstBroken (entriesOf p)) → First (entriesOf p) (checkProfile p)
+    go (inl w) = absurd (n (check-entries p ∙ w .1))
+    go (inr f) = rw check-entries f
+
+-- rule 7 of an accepted profile: its regions' lines follow one another
+pub accepted-ordered : (p : Profile) → checkProfile p ≡ accepted → Ordered (p .field)
+accepted-ordered p e =
+    let w = accepted-exactly p .0 e in
+    let o = w .2 in
+    let some = regions-some p (check-range p e) (w .1) in
+    record { some = some; zero = o .rule-7-first some; rise = o .rule-7-rise; below = o .rule-7-below }

@@ -2,7 +2,7 @@
 -- An entry that answers number 0 would look like none, so the laws that need it ask that each has a number (`Numbered`).
 -- Assumes nothing.
 use mathlib.Core.Path.{_≡_, refl, ap, _∙_}
-use mathlib.Core.Bool.{Bool, true, false}
+use mathlib.Core.Bool.{true}
 use mathlib.Core.List.{List, [], _∷_, _++_}
 use Prim.Native.Nat.{ℕ, zero, suc, _≤_, _<_}
 use native.Mathlib.Omega.{arith}
@@ -37,11 +37,28 @@ unfolding firstBroken
 hold-accepted [] h = refl
 hold-accepted (e ∷ es) h = rw (h .0) (hold-accepted es (h .1))
 
+-- a number of 0 says that none is broken
+pub number-accepted : (es : List Entry) → Numbered es → firstBroken es .number ≡ 0 → firstBroken es ≡ accepted
+unfolding firstBroken
+number-accepted [] n e = refl
+number-accepted (x ∷ es) n e =
+    by-cases (x .holds)
+    (λ h. rw h (number-accepted es (n .1) (rw h at e)))
+    (λ h. let z = rw h at e in absurd (omega (arith, n .0)))
+
 -- ---- two lists, one after the other
 
 pub numbered-append : (a b : List Entry) → Numbered a → Numbered b → Numbered (a ++ b)
 numbered-append [] b n m = m
 numbered-append (e ∷ a) b n m = (n .0, numbered-append a b (n .1) m)
+
+pub hold-left : (a b : List Entry) → Hold (a ++ b) → Hold a
+hold-left [] b h = tt
+hold-left (e ∷ a) b h = (h .0, hold-left a b (h .1))
+
+pub hold-right : (a b : List Entry) → Hold (a ++ b) → Hold b
+hold-right [] b h = h
+hold-right (e ∷ a) b h = hold-right a b (h .1)
 
 pub fine-then : (a b : List Entry) → Numbered a → firstBroken a ≡ accepted → firstBroken (a ++ b) ≡ firstBroken b
 unfolding firstBroken
@@ -70,6 +87,14 @@ pub numbered-chunks : (n : ℕ) (f : ℕ → List Entry) → ((i : ℕ) → Numb
 unfolding chunks
 numbered-chunks zero f h = tt
 numbered-chunks (suc n) f h = numbered-append (chunks n f) (f n) (numbered-chunks n f h) (h n)
+
+pub hold-chunk : (n : ℕ) (f : ℕ → List Entry) → Hold (chunks n f) → (i : ℕ) → i < n → Hold (f i)
+unfolding chunks
+hold-chunk zero f h i l = absurd (omega arith)
+hold-chunk (suc n) f h i l =
+    by-cases (eqb i n)
+    (λ q. rw (eqb-true i n q) (hold-right (chunks n f) (f n) h))
+    (λ q. hold-chunk n f (hold-left (chunks n f) (f n) h) i (omega (arith, eqb-false i n q)))
 
 pub fine-chunk : (n : ℕ) (f : ℕ → List Entry) → ((i : ℕ) → Numbered (f i)) → firstBroken (chunks n f) ≡ accepted
     → (i : ℕ) → i < n → firstBroken (f i) ≡ accepted

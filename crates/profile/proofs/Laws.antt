@@ -5,14 +5,14 @@ use mathlib.Core.Bool.{Bool, true, false, cond, not, _&&_, _||_, false≢true}
 use mathlib.Core.Logic.{_⊎_, inl, inr}
 use mathlib.Core.List.{List, [], _∷_, _++_, map, append-assoc, append-nil}
 use Prim.Native.Nat.{ℕ, zero, suc, _+_, _*_, _-_, _≤_, _<_, zero-le}
-use native.Mathlib.Nat.{add-zero, zero-add, add-suc, suc-add, add-assoc, zero-mul, suc-mul, add-mul, le-refl, le-trans, mul-le-mul}
+use native.Mathlib.Nat.{add-zero, zero-add, add-suc, add-assoc, zero-mul, suc-mul, add-mul, le-trans, mul-le-mul}
 use native.Mathlib.Numerals.{add-one}
 use native.Mathlib.Omega.{arith}
 use borrow.Author.Tests.{not-true, not-false, leb-true, leb-false, le-leb, lt-leb, eqb-true, eqb-false}
-use lib.ListN.{length, length-map, getD, drop, length-append, List·getD-append, List·getD-eq-default}
-use lib.Seq.{getD-append-add, drop-at}
-use lib.Dec.{leb, ltb, eqb}
-use Rattle.profile.specs.Lists.{all, chunks, sum, lastStart, over}
+use lib.ListN.{length, length-map, getD, length-append, List·getD-append}
+use lib.Seq.{getD-append-add}
+use lib.Dec.{leb, eqb}
+use Rattle.profile.specs.Lists.{all, chunks, sum, lastStart}
 
 -- ---- choices by a test
 

@@ -2,7 +2,7 @@
 -- how much a profile in range can have. Line lengths of a region are alike but for the field's last line, and starts that rise part the lines.
 -- Assumes nothing.
 use mathlib.Core.Path.{_≡_, refl, sym, ap, _∙_}
-use mathlib.Core.Bool.{Bool, true, cond, _&&_}
+use mathlib.Core.Bool.{true, cond, _&&_}
 use mathlib.Core.List.{List, [], _∷_}
 use Prim.Native.Nat.{ℕ, zero, suc, _+_, _*_, _-_, _≤_, _<_}
 use native.Mathlib.Nat.{zero-add, le-trans}
@@ -10,32 +10,9 @@ use native.Mathlib.Numerals.{add-one}
 use native.Mathlib.Omega.{arith}
 use borrow.Author.Tests.{ltb-true, ltb-false, leb-true, leb-false, eqb-true, eqb-false, lt-ltb, le-ltb, eq-eqb, ne-eqb}
 use lib.Dec.{ltb, leb, eqb}
-use lib.ListN.{getD}
-use Rattle.profile.proofs.Laws.{
-  cond-case,
-  by-cases,
-  and-left,
-  and-right,
-  and-intro,
-  Passed,
-  passed,
-  all-chunks,
-  all-one,
-  sum-ext,
-  sum-same,
-  sum-le,
-  sum-more,
-  sum-below,
-  sum-but-one,
-  sum-upto,
-  sum-parts,
-  chunks-parts,
-  last-below,
-  last-is,
-  last-starts,
-  last-next,
-}
-use Rattle.profile.specs.Lists.{all, chunks, sum, lastStart}
+use Rattle.profile.proofs.Items.{items}
+use Rattle.profile.proofs.Laws.{cond-case, by-cases, and-left, and-right, and-intro, Passed, passed, sum-ext, sum-same, sum-le, sum-more, sum-below, sum-but-one, sum-upto, sum-parts, chunks-parts, last-below, last-is, last-starts, last-next}
+use Rattle.profile.specs.Lists.{chunks, sum, lastStart}
 use Rattle.profile.specs.Geometry.{
   regionCount,
   regionAt,
@@ -52,27 +29,7 @@ use Rattle.profile.specs.Geometry.{
   pixelCount,
   hasPixel,
 }
-use Rattle.profile.specs.Values.{emptyGate, emptyShutter}
-use Rattle.profile.specs.Ranges.{
-  halfLimit,
-  sequenceRange,
-  fieldRange,
-  regionRange,
-  sequenceIn,
-  regionIn,
-  fieldIn,
-  gateIn,
-  subckIn,
-  shutterIn,
-  halfTests,
-  sequenceTests,
-  regionTests,
-  gateTests,
-  shutterTests,
-  zeros,
-  inRange,
-}
-use Rattle.profile.specs.Rules.{startsRight}
+use Rattle.profile.specs.Ranges.{sequenceRange, fieldRange, regionRange, sequenceIn, regionIn, fieldIn, zeros, inRange}
 use Rattle.profile.specs.declared.Sequence.{Sequence}
 use Rattle.profile.specs.declared.Field.{Field}
 use Rattle.profile.specs.declared.Tables.{Tables}
@@ -196,30 +153,6 @@ pub record Ordered (f : Field) : Type 0 where
   pub rise : (i : ℕ) → i + 1 < regionCount f → firstLine f i < firstLine f (i + 1)
   pub below : (i : ℕ) → i < regionCount f → firstLine f i < f .lines
 
-pub starts-below : (f : Field) (i : ℕ) → startsRight f i ≡ true → firstLine f i < f .lines
-unfolding startsRight
-starts-below f i e = ltb-true (firstLine f i) (f .lines) (and-left _ _ e)
-
-pub starts-zero : (f : Field) → startsRight f 0 ≡ true → firstLine f 0 ≡ 0
-unfolding startsRight
-starts-zero f e = eqb-true (firstLine f 0) 0 (and-right (ltb (firstLine f 0) (f .lines)) _ e)
-
-pub starts-rise : (f : Field) (i : ℕ) → startsRight f (i + 1) ≡ true → firstLine f i < firstLine f (i + 1)
-unfolding startsRight
-starts-rise f i e =
-    let same : i + 1 - 1 ≡ i = omega arith in
-    let rest = and-right (ltb (firstLine f (i + 1)) (f .lines)) _ e in
-    ltb-true (firstLine f i) (firstLine f (i + 1)) (rw (ne-eqb (i + 1) 0 (omega arith), same) at rest)
-
-pub ordered : (f : Field) → ((i : ℕ) → i < regionCount f → startsRight f i ≡ true) → 0 < regionCount f → Ordered f
-ordered f right h =
-    record {
-      some = h;
-      zero = starts-zero f (right 0 h);
-      rise = λ i l. starts-rise f i (right (i + 1) l);
-      below = λ i l. starts-below f i (right i l);
-    }
-
 module _ (f : Field) (o : Ordered f) where
   -- a later region starts later, by induction on the later one
   pub start-later : (i j : ℕ) → i < j → j < regionCount f → firstLine f i < firstLine f j
@@ -323,51 +256,6 @@ module _ (f : Field) (o : Ordered f) where
 
 -- ---- a profile in range: "lines 1..4095, last-line length 1..4095", "n = 1..7", "sequence 0..9", "line length 1..4095"
 
--- what inRange says of each item
-pub record Ranged (p : Profile) : Type 0 where
-  pub halves : (i : ℕ) → i < 240 → getD (p .tables .registers) i 0 ≤ halfLimit i
-  pub sequences : (k : ℕ) → k < 10 → sequenceIn (sequenceOf (p .tables) k) ≡ true
-  pub gates : (k : ℕ) → k < 5 → gateIn (getD (p .tables .gates) k emptyGate) ≡ true
-  pub subck : subckIn (p .tables .subck) ≡ true
-  pub shutters : (k : ℕ) → k < 2 → shutterIn (getD (p .tables .shutters) k emptyShutter) ≡ true
-  pub field : fieldIn (p .field) ≡ true
-  pub regions : (i : ℕ) → i < 7 → regionIn (p .field) i ≡ true
-
--- seven tests, each
-and-seven : (a b c d e f g : Bool) → a && b && c && d && e && f && g ≡ true
-    → (a ≡ true) × (b ≡ true) × (c ≡ true) × (d ≡ true) × (e ≡ true) × (f ≡ true) × (g ≡ true)
-and-seven a b c d e f g h =
-    let six = and-left (a && b && c && d && e && f) g h in
-    let five = and-left (a && b && c && d && e) f six in
-    let four = and-left (a && b && c && d) e five in
-    let three = and-left (a && b && c) d four in
-    let two = and-left (a && b) c three in (
-      and-left a b two,
-      and-right a b two,
-      and-right (a && b) c three,
-      and-right (a && b && c) d four,
-      and-right (a && b && c && d) e five,
-      and-right (a && b && c && d && e) f six,
-      and-right (a && b && c && d && e && f) g h,
-    )
-
-pub ranged : (p : Profile) → inRange p ≡ true → Ranged p
-unfolding inRange
-ranged p e =
-    let w =
-    and-seven (all (chunks 240 (halfTests (p .tables .registers)))) (all (chunks 10 (sequenceTests (p .tables .sequences))))
-    (all (chunks 5 (gateTests (p .tables .gates)))) (subckIn (p .tables .subck)) (all (chunks 2 (shutterTests (p .tables .shutters))))
-    (fieldIn (p .field)) (all (chunks 7 (regionTests (p .field)))) e in
-    record {
-      halves = λ i h. leb-true _ _ (sym (all-one _) ∙ all-chunks 240 (halfTests (p .tables .registers)) (w .0) i h);
-      sequences = λ k h. sym (all-one _) ∙ all-chunks 10 (sequenceTests (p .tables .sequences)) (w .1) k h;
-      gates = λ k h. sym (all-one _) ∙ all-chunks 5 (gateTests (p .tables .gates)) (w .2) k h;
-      subck = w .3;
-      shutters = λ k h. sym (all-one _) ∙ all-chunks 2 (shutterTests (p .tables .shutters)) (w .4) k h;
-      field = w .5;
-      regions = λ i h. sym (all-one _) ∙ all-chunks 7 (regionTests (p .field)) (w .6) i h;
-    }
-
 -- an absent sequence has length 0
 pub sequence-most : (s : Sequence) → sequenceIn s ≡ true → s .length ≤ 4095
 unfolding sequenceIn
@@ -381,7 +269,7 @@ sequence-most s e =
 module _ (p : Profile) (e : inRange p ≡ true) (there : p .field .present ≡ true) where
   pub field-tests : Passed (fieldRange (p .field))
   unfolding fieldIn
-  field-tests = passed (fieldRange (p .field)) (rw there at (ranged p e .field))
+  field-tests = passed (fieldRange (p .field)) (rw there at (items p e .field))
 
   pub lines-some : 1 ≤ p .field .lines
   lines-some = leb-true 1 (p .field .lines) (field-tests .1 .0)
@@ -411,7 +299,7 @@ module _ (p : Profile) (e : inRange p ≡ true) (there : p .field .present ≡ t
   unfolding regionIn
   region-tests i h =
       passed (regionRange (regionAt (p .field) i))
-      (rw (lt-ltb i (p .field .count) (omega arith)) at (ranged p e .regions i (omega arith)))
+      (rw (lt-ltb i (p .field .count) (omega arith)) at (items p e .regions i (omega arith)))
 
   pub first-most : (i : ℕ) → i < regionCount (p .field) → firstLine (p .field) i ≤ 4094
   first-most i h = leb-true (firstLine (p .field) i) 4094 (region-tests i h .0)
@@ -422,7 +310,7 @@ module _ (p : Profile) (e : inRange p ≡ true) (there : p .field .present ≡ t
   pub sequence-length-most : (i : ℕ) → i < regionCount (p .field) → sequenceAt (p .tables) (p .field) i .length ≤ 4095
   sequence-length-most i h =
       let k : ℕ = regionAt (p .field) i .sequence in
-      sequence-most (sequenceOf (p .tables) k) (ranged p e .sequences k (omega (arith, sequence-below i h)))
+      sequence-most (sequenceOf (p .tables) k) (items p e .sequences k (omega (arith, sequence-below i h)))
 
   pub length-most : (i line : ℕ) → i < regionCount (p .field) → lengthIn (p .tables) (p .field) i line ≤ 4095
   length-most i line h = length-bound (p .tables) (p .field) i 4095 line (sequence-length-most i h) last-most

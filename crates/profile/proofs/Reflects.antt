@@ -12,7 +12,7 @@ use lib.ListN.{getD}
 use lib.Dec.{ltb, leb, eqb}
 use borrow.Author.Tests.{ltb-true, leb-true, leb-false, eqb-true, eqb-false, lt-ltb, le-leb, eq-eqb, ne-eqb, not-true}
 use Rattle.profile.specs.Lists.{all, chunks}
-use Rattle.profile.specs.Patterns.{rowOf, used, follows, toggleFault, highestUsed}
+use Rattle.profile.specs.Patterns.{used, follows, toggleFault, highestUsed}
 use Rattle.profile.specs.Geometry.{regionAt, regionOf, sequenceAt, patternAt, lineLength, hasPixel, repetitions}
 use Rattle.profile.specs.Rules.{
   togglesRight,
@@ -27,7 +27,7 @@ use Rattle.profile.specs.Rules.{
   comesBefore,
   shutterRight,
 }
-use Rattle.profile.specs.Obeys.{Used, toggleOf, Rises, PairOn, Masks, Highest, Counts, Ends, Seconds, Exists, Before, Shuts}
+use Rattle.profile.specs.Obeys.{Used, toggleOf, Rises, Masks, Highest, Counts, Ends, Seconds, Exists, Before, Shuts}
 use Rattle.profile.specs.declared.Mode.{Mode}
 use Rattle.profile.specs.declared.Mode.the-variants.{Plain, Sweep, Multiplier}
 use Rattle.profile.specs.declared.Sequence.{Sequence}

@@ -21,7 +21,6 @@ use Rattle.profile.specs.Geometry.{
 use Rattle.profile.specs.Rules.{secondOf}
 use Rattle.profile.specs.declared.Mode.{Mode}
 use Rattle.profile.specs.declared.Mode.the-variants.{Plain, Sweep, Multiplier}
-use Rattle.profile.specs.declared.Region.{Region}
 use Rattle.profile.specs.declared.Sequence.{Sequence}
 use Rattle.profile.specs.declared.Pattern.{Pattern}
 use Rattle.profile.specs.declared.Gate.{Gate}

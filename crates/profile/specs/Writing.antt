@@ -2,7 +2,7 @@
 -- Assumes nothing.
 use Prim.Native.Nat.{ℕ, _+_, _*_}
 use mathlib.Core.List.{List, [], _∷_, _++_}
-use mathlib.Core.Bool.{Bool, cond, _&&_}
+use mathlib.Core.Bool.{cond}
 use lib.ListN.{length, getD}
 use lib.Dec.{leb}
 use Rattle.profile.specs.Lists.{chunks, over}
@@ -10,7 +10,6 @@ use Rattle.profile.specs.Bytes.{twoBytes, threeBytes}
 use Rattle.profile.specs.Values.{modeNumber, accepted, refused, accepts, emptySequence, emptyGate, emptyShutter}
 use Rattle.profile.specs.Geometry.{regionCount, regionAt}
 use Rattle.profile.specs.Rules.{checkProfile}
-use Rattle.profile.specs.declared.Region.{Region}
 use Rattle.profile.specs.declared.Sequence.{Sequence}
 use Rattle.profile.specs.declared.Field.{Field}
 use Rattle.profile.specs.declared.Gate.{Gate}

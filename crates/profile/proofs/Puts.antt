@@ -1,0 +1,331 @@
+-- A record whose values fit leaves a profile of the same array lengths, and in range where it was.
+-- One item changes, and the record's tests are its ranges; a register's two halves are bounded by its bytes.
+-- Assumes nothing.
+use mathlib.Core.Path.{_≡_, ap, _∙_}
+use mathlib.Core.Bool.{Bool, true, false, cond}
+use mathlib.Core.List.{List, _∷_}
+use Prim.Native.Nat.{ℕ, _+_, _-_, _*_, _/_, _%_, _≤_, _<_}
+use native.Mathlib.Omega.{arith}
+use borrow.Author.Tests.{ltb-true, ltb-false, le-leb, eqb-true, eqb-false, eq-eqb, ne-eqb}
+use lib.Dec.{ltb, leb, eqb}
+use lib.ListN.{length, getD, set, length-set}
+use lib.Seq.{set-out, getD-set-same, getD-set-other}
+use Rattle.profile.specs.Lists.{all}
+use Rattle.profile.specs.Bytes.{numberAt, dataAt}
+use Rattle.profile.specs.Values.{Sized, emptyRegion, emptySequence, emptyGate, emptyShutter}
+use Rattle.profile.specs.Ranges.{
+  halfLimit,
+  sequenceRange,
+  fieldRange,
+  regionRange,
+  gateRange,
+  shutterRange,
+  sequenceIn,
+  regionIn,
+  fieldIn,
+  gateIn,
+  subckIn,
+  shutterIn,
+}
+use Rattle.profile.specs.Script.{
+  registerFits,
+  withRegister,
+  sequenceFrom,
+  sequenceFits,
+  withSequence,
+  regionFrom,
+  regionFits,
+  fieldFrom,
+  fieldFits,
+  gateFrom,
+  gateFits,
+  withGate,
+  subckFrom,
+  subckFits,
+  withSubck,
+  shutterFrom,
+  shutterFits,
+  withShutter,
+  byKind,
+  fits,
+  put,
+}
+use Rattle.profile.specs.declared.Region.{Region}
+use Rattle.profile.specs.declared.Sequence.{Sequence}
+use Rattle.profile.specs.declared.Gate.{Gate}
+use Rattle.profile.specs.declared.Shutter.{Shutter}
+use Rattle.profile.specs.declared.Profile.{Profile}
+use Rattle.profile.proofs.Laws.{by-cases, and-left, and-right, where-true, passed, all-passed, all-chunks}
+use Rattle.profile.proofs.Items.{Items, field-count, region-inside, region-past}
+use Rattle.profile.proofs.ByteRange.{Bytes}
+use Rattle.profile.proofs.FieldBody.{padded-front, padded-past, length-padded}
+
+-- ---- one thing of six by the kind
+
+-- what holds of each of two choices by kind, side by side, holds of the chosen
+by-kind : {A B : Type 0} (Q : A → B → Type 0) (kind : ℕ) (a1 a2 a3 a4 a5 a6 : A) (b1 b2 b3 b4 b5 b6 : B)
+    → Q a1 b1 → Q a2 b2 → Q a3 b3 → Q a4 b4 → Q a5 b5 → Q a6 b6
+    → Q (byKind kind a1 a2 a3 a4 a5 a6) (byKind kind b1 b2 b3 b4 b5 b6)
+by-kind Q kind a1 a2 a3 a4 a5 a6 b1 b2 b3 b4 b5 b6 q1 q2 q3 q4 q5 q6 =
+    pick (eqb kind 1) (eqb kind 2) (eqb kind 3) (eqb kind 4) (eqb kind 5)
+  where
+    pick : (c1 c2 c3 c4 c5 : Bool)
+        → Q (cond c1 a1 (cond c2 a2 (cond c3 a3 (cond c4 a4 (cond c5 a5 a6)))))
+        (cond c1 b1 (cond c2 b2 (cond c3 b3 (cond c4 b4 (cond c5 b5 b6)))))
+    pick true c2 c3 c4 c5 = q1
+    pick false true c3 c4 c5 = q2
+    pick false false true c4 c5 = q3
+    pick false false false true c5 = q4
+    pick false false false false true = q5
+    pick false false false false false = q6
+
+-- ---- an array with one item stored
+
+-- what held of each item, and of the one that is stored, holds of each after
+stored : {A : Type 0} (P : ℕ → A → Type 0) (n : ℕ) (l : List A) (k : ℕ) (v d : A) → P k v → ((i : ℕ) → i < n → P i (getD l i d))
+    → (i : ℕ) → i < n → P i (getD (set l k v) i d)
+stored P n l k v d new old i h =
+    by-cases (eqb i k)
+    (λ e.
+    let q = eqb-true i k e in
+    by-cases (ltb k (length l))
+    (λ u. rw (q, getD-set-same l k v d (ltb-true k (length l) u)) new)
+    (λ u. rw (set-out l k v (ltb-false k (length l) u)) (old i h)))
+    (λ e. rw (getD-set-other l k i v d (eqb-false i k e)) (old i h))
+
+-- ---- kind 3
+
+field-tests : (b : List ℕ) → fieldFits b ≡ true → all (fieldRange (fieldFrom b)) ≡ true
+unfolding fieldFits
+field-tests b e =
+    let t = eqb (10 + 6 * numberAt b 8) (length b) ∷ fieldRange (fieldFrom b) in
+    all-passed (fieldRange (fieldFrom b)) (passed t (and-left (all t) _ e) .1)
+
+count-high : (b : List ℕ) → fieldFits b ≡ true → numberAt b 8 ≤ 7
+unfolding fieldFrom
+count-high b e = field-count (fieldFrom b) (field-tests b e) .1
+
+length-regions : (b : List ℕ) → fieldFits b ≡ true → length (fieldFrom b .regions) ≡ 7
+unfolding fieldFrom
+length-regions b e = omega (arith, length-padded (numberAt b 8) (7 - numberAt b 8) (regionFrom b) emptyRegion, count-high b e)
+
+field-ranged : (b : List ℕ) → fieldFits b ≡ true → fieldIn (fieldFrom b) ≡ true
+unfolding fieldFrom fieldIn
+field-ranged b e = field-tests b e
+
+region-ranged : (b : List ℕ) → fieldFits b ≡ true → (i : ℕ) → i < 7 → regionIn (fieldFrom b) i ≡ true
+unfolding fieldFits fieldFrom
+region-ranged b e i h =
+    let n = numberAt b 8 in
+    let c = and-right (all (eqb (10 + 6 * n) (length b) ∷ fieldRange (fieldFrom b))) _ e in
+    by-cases (ltb i n)
+    (λ u.
+    let l = ltb-true i n u in
+    let r = all-passed (regionRange (regionFrom b i)) (passed (regionFits b i) (all-chunks n (regionFits b) c i l) .1) in
+    region-inside (fieldFrom b) i l
+    (ap (λ (r : Region). all (regionRange r)) (padded-front n (7 - n) (regionFrom b) emptyRegion i l) ∙ r))
+    (λ u.
+    let l = ltb-false i n u in
+    region-past (fieldFrom b) i l (padded-past n (7 - n) (regionFrom b) emptyRegion i l))
+
+-- ---- kind 1
+
+low-part : (u x : ℕ) → u < 4096 → (u + 4096 * x) % 4096 ≡ u
+low-part u x h = omega arith
+
+-- bits 6..11 of a number are 0: its lowest 12 bits are its lowest 6
+six-bits : (v : ℕ) → v / 64 % 64 ≡ 0 → v % 4096 ≤ 63
+six-bits v e =
+    let q : v ≡ v % 64 + 4096 * (v / 64 / 64) = omega arith in
+    let u : v % 64 < 4096 = omega arith in
+    omega (arith, ap (λ (w : ℕ). w % 4096) q ∙ low-part (v % 64) (v / 64 / 64) u)
+
+twelves : (q : ℕ) → (12 * q) % 12 ≡ 0
+twelves q = omega arith
+
+-- half 0 of a pattern is of its word 0
+word-zero : (a : ℕ) → (2 * a) % 24 ≡ 0 → a % 12 ≡ 0
+word-zero a e = let q : a ≡ 12 * (2 * a / 24) = omega arith in ap (λ (x : ℕ). x % 12) q ∙ twelves (2 * a / 24)
+
+module _ (b : List ℕ) (bytes : Bytes b) (e : registerFits b ≡ true) where
+  -- word 0 of a pattern: bits 6..11 are 0
+  low-ranged : leb (dataAt b 1 % 4096) (halfLimit (2 * getD b 0 0)) ≡ true
+  unfolding registerFits
+  low-ranged =
+      let a = getD b 0 0 in
+      let v = dataAt b 1 in
+      let r = passed _ e in
+      by-cases (eqb ((2 * a) % 24) 0)
+      (λ z.
+      let m : a % 12 ≡ 0 = word-zero a (eqb-true ((2 * a) % 24) 0 z) in
+      let w = eqb-true (v / 64 % 64) 0 (where-true (eqb (a % 12) 0) _ (r .1 .0) (eq-eqb (a % 12) 0 m)) in
+      rw z (le-leb (v % 4096) 63 (six-bits v w)))
+      (λ z. rw z (le-leb (v % 4096) 4095 (omega arith)))
+
+  high-ranged : leb (dataAt b 1 / 4096) (halfLimit (2 * getD b 0 0 + 1)) ≡ true
+  high-ranged =
+      let a = getD b 0 0 in
+      let m : (2 * a + 1) % 24 ≡ 0 → ⊥ = omega arith in
+      rw (ne-eqb ((2 * a + 1) % 24) 0 m) (le-leb (dataAt b 1 / 4096) 4095 (omega (arith, bytes .at 1, bytes .at 2, bytes .at 3)))
+
+  halves-ranged : (l : List ℕ) → ((i : ℕ) → i < 240 → leb (getD l i 0) (halfLimit i) ≡ true)
+      → (i : ℕ) → i < 240
+      → leb (getD (set (set l (2 * getD b 0 0) (dataAt b 1 % 4096)) (2 * getD b 0 0 + 1) (dataAt b 1 / 4096)) i 0) (halfLimit i) ≡ true
+  halves-ranged l old =
+      let in-limit : ℕ → ℕ → Type 0 = λ i x. leb x (halfLimit i) ≡ true in
+      stored in-limit 240 (set l (2 * getD b 0 0) (dataAt b 1 % 4096)) (2 * getD b 0 0 + 1) (dataAt b 1 / 4096) 0 high-ranged
+      (stored in-limit 240 l (2 * getD b 0 0) (dataAt b 1 % 4096) 0 low-ranged old)
+
+-- ---- kinds 2, 4, 5, 6: a present item, whose tests are the record's
+
+sequence-ranged : (b : List ℕ) → sequenceFits b ≡ true → sequenceIn (sequenceFrom b) ≡ true
+unfolding sequenceFits sequenceIn
+sequence-ranged b e = all-passed (sequenceRange (sequenceFrom b)) (passed _ e .1)
+
+gate-ranged : (b : List ℕ) → gateFits b ≡ true → gateIn (gateFrom b) ≡ true
+unfolding gateFits gateIn
+gate-ranged b e = all-passed (gateRange (gateFrom b)) (passed _ e .1)
+
+subck-ranged : (b : List ℕ) → subckFits b ≡ true → subckIn (subckFrom b) ≡ true
+unfolding subckFits subckIn
+subck-ranged b e = e
+
+shutter-ranged : (b : List ℕ) → shutterFits b ≡ true → shutterIn (shutterFrom b) ≡ true
+unfolding shutterFits shutterIn
+shutter-ranged b e = all-passed (shutterRange (shutterFrom b)) (passed _ e .1)
+
+-- ---- a record put
+
+-- what holds of the profile with each kind's item, where the record fits, holds of the profile with the record
+put-case : (Q : Profile → Type 0) (kind : ℕ) (b : List ℕ) (p : Profile)
+    → (registerFits b ≡ true → Q (record { tables = withRegister b (p .tables); field = p .field }))
+    → (sequenceFits b ≡ true → Q (record { tables = withSequence b (p .tables); field = p .field }))
+    → (fieldFits b ≡ true → Q (record { tables = p .tables; field = fieldFrom b }))
+    → (gateFits b ≡ true → Q (record { tables = withGate b (p .tables); field = p .field }))
+    → (subckFits b ≡ true → Q (record { tables = withSubck b (p .tables); field = p .field }))
+    → (shutterFits b ≡ true → Q (record { tables = withShutter b (p .tables); field = p .field }))
+    → fits kind b ≡ true → Q (put kind b p)
+unfolding fits put
+put-case Q kind b p = by-kind (λ (f : Bool) (q : Profile). f ≡ true → Q q) kind _ _ _ _ _ _ _ _ _ _ _ _
+
+pub put-sized : (kind : ℕ) (b : List ℕ) (p : Profile) → Sized p → fits kind b ≡ true → Sized (put kind b p)
+put-sized kind b p z =
+    put-case Sized kind b p
+    (λ f.
+    record {
+      registers = simp length-set (z .registers);
+      sequences = z .sequences;
+      gates = z .gates;
+      shutters = z .shutters;
+      regions = z .regions;
+    })
+    (λ f.
+    record {
+      registers = z .registers;
+      sequences = simp length-set (z .sequences);
+      gates = z .gates;
+      shutters = z .shutters;
+      regions = z .regions;
+    })
+    (λ f.
+    record {
+      registers = z .registers;
+      sequences = z .sequences;
+      gates = z .gates;
+      shutters = z .shutters;
+      regions = length-regions b f;
+    })
+    (λ f.
+    record {
+      registers = z .registers;
+      sequences = z .sequences;
+      gates = simp length-set (z .gates);
+      shutters = z .shutters;
+      regions = z .regions;
+    })
+    (λ f.
+    record {
+      registers = z .registers;
+      sequences = z .sequences;
+      gates = z .gates;
+      shutters = z .shutters;
+      regions = z .regions;
+    })
+    (λ f.
+    record {
+      registers = z .registers;
+      sequences = z .sequences;
+      gates = z .gates;
+      shutters = simp length-set (z .shutters);
+      regions = z .regions;
+    })
+
+pub put-items : (kind : ℕ) (b : List ℕ) (p : Profile) → Bytes b → Items p → fits kind b ≡ true → Items (put kind b p)
+put-items kind b p bytes r =
+    put-case Items kind b p
+    (λ f.
+    record {
+      halves = halves-ranged b bytes f (p .tables .registers) (r .halves);
+      sequences = r .sequences;
+      gates = r .gates;
+      subck = r .subck;
+      shutters = r .shutters;
+      field = r .field;
+      regions = r .regions;
+    })
+    (λ f.
+    record {
+      halves = r .halves;
+      sequences =
+          stored (λ (i : ℕ) (s : Sequence). sequenceIn s ≡ true) 10 (p .tables .sequences) (numberAt b 0) (sequenceFrom b) emptySequence
+          (sequence-ranged b f) (r .sequences);
+      gates = r .gates;
+      subck = r .subck;
+      shutters = r .shutters;
+      field = r .field;
+      regions = r .regions;
+    })
+    (λ f.
+    record {
+      halves = r .halves;
+      sequences = r .sequences;
+      gates = r .gates;
+      subck = r .subck;
+      shutters = r .shutters;
+      field = field-ranged b f;
+      regions = region-ranged b f;
+    })
+    (λ f.
+    record {
+      halves = r .halves;
+      sequences = r .sequences;
+      gates =
+          stored (λ (i : ℕ) (g : Gate). gateIn g ≡ true) 5 (p .tables .gates) (numberAt b 0) (gateFrom b) emptyGate
+          (gate-ranged b f) (r .gates);
+      subck = r .subck;
+      shutters = r .shutters;
+      field = r .field;
+      regions = r .regions;
+    })
+    (λ f.
+    record {
+      halves = r .halves;
+      sequences = r .sequences;
+      gates = r .gates;
+      subck = subck-ranged b f;
+      shutters = r .shutters;
+      field = r .field;
+      regions = r .regions;
+    })
+    (λ f.
+    record {
+      halves = r .halves;
+      sequences = r .sequences;
+      gates = r .gates;
+      subck = r .subck;
+      shutters =
+          stored (λ (i : ℕ) (s : Shutter). shutterIn s ≡ true) 2 (p .tables .shutters) (numberAt b 0) (shutterFrom b) emptyShutter
+          (shutter-ranged b f) (r .shutters);
+      field = r .field;
+      regions = r .regions;
+    })

@@ -1,0 +1,160 @@
+-- What reading accepts is in range and accepted by the check; what it refuses leaves the empty profile.
+-- Each record taken keeps the array lengths and the ranges, and an answer of number 0 was judged.
+-- Assumes nothing.
+use mathlib.Core.Path.{_≡_, refl, _∙_}
+use mathlib.Core.Bool.{true}
+use mathlib.Core.List.{List, [], _∷_}
+use Prim.Native.Nat.{ℕ, zero, suc, _+_}
+use native.Mathlib.Omega.{arith}
+use borrow.Author.Tests.{eqb-true, eqb-false, eq-eqb, ne-eqb}
+use lib.Dec.{leb}
+use lib.ListN.{length}
+use Rattle.profile.specs.Lists.{all, chunks}
+use Rattle.profile.specs.Bytes.{numberAt}
+use Rattle.profile.specs.Values.{
+  Sized,
+  emptyField,
+  emptyTables,
+  emptyProfile,
+  accepted,
+  refused,
+  accepts,
+  readAnswer,
+}
+use Rattle.profile.specs.Ranges.{sequenceIn, regionIn, fieldIn, gateIn, subckIn, shutterIn, inRange}
+use Rattle.profile.specs.Rules.{judge, checkProfile}
+use Rattle.profile.specs.Script.{bodyOf, Step, stop, next, step, records, judged, readScript}
+use Rattle.profile.specs.declared.Profile.{Profile}
+use Rattle.profile.specs.declared.Verdict.{Verdict}
+use Rattle.profile.specs.declared.ReadAnswer.{ReadAnswer}
+use Rattle.profile.proofs.Laws.{cond-case}
+use Rattle.profile.proofs.Checked.{check-judge, judge-number}
+use Rattle.profile.proofs.Takes.{step-taken}
+use Rattle.profile.proofs.Items.{items, items-in}
+use Rattle.profile.proofs.ByteRange.{Bytes, bytes-tail, bytes-part}
+use Rattle.profile.proofs.Puts.{put-sized, put-items}
+
+-- ---- one record taken
+
+pub step-sized : (s : List ℕ) (p : Profile) (len : ℕ) (q : Profile) → Sized p → step s p ≡ next len q → Sized q
+step-sized s p len q z e =
+    let t = step-taken s p len q e in
+    rw (t .gives) at (put-sized (numberAt s 2) (bodyOf s) p z (t .values))
+
+pub step-in : (s : List ℕ) (p : Profile) (len : ℕ) (q : Profile) → Bytes s → inRange p ≡ true → step s p ≡ next len q → inRange q ≡ true
+step-in s p len q b r e =
+    let t = step-taken s p len q e in
+    let w = put-items (numberAt s 2) (bodyOf s) p (bytes-part s (numberAt s 0) 4 b) (items p r) (t .values) in
+    items-in q (rw (t .gives) at w)
+
+-- ---- all records
+
+-- P of the profile is kept by each record of a script of which B holds, and gives Q of the answer
+module _ (B : List ℕ → Type 0) (P : Profile → Type 0) (Q : ReadAnswer → Type 0)
+    (tail : (x : ℕ) (xs : List ℕ) → B (x ∷ xs) → B xs)
+    (keeps : (s : List ℕ) (p : Profile) (len : ℕ) (q : Profile) → B s → P p → step s p ≡ next len q → P q)
+    (ends : (v : Verdict) (p : Profile) → P p → Q (readAnswer v p)) where
+  -- the record at the front, by what its step is; on is the rest
+  one : (x : ℕ) (xs : List ℕ) (at : ℕ) (p : Profile) → B (x ∷ xs) → P p
+      → ((skip at : ℕ) (q : Profile) → P q → Q (records skip at xs q))
+      → (r : Step) → step (x ∷ xs) p ≡ r → Q (records 0 at (x ∷ xs) p)
+  unfolding records
+  one x xs at p b h on (stop n) e = rw (e, records) (ends (refused n at) p h)
+  one x xs at p b h on (next len q) e = rw (e, records) (on (3 + len) (at + 1) q (keeps (x ∷ xs) p len q b h e))
+
+  records-all : (s : List ℕ) (skip at : ℕ) (p : Profile) → B s → P p → Q (records skip at s p)
+  unfolding records
+  records-all [] skip at p b h = ends accepted p h
+  records-all (x ∷ xs) zero at p b h =
+      one x xs at p b h (λ skip at q. records-all xs skip at q (tail x xs b)) (step (x ∷ xs) p) refl
+  records-all (x ∷ xs) (suc skip) at p b h = records-all xs skip (at + 1) p (tail x xs b) h
+
+-- ---- the profile of an answer
+
+pub empty-sized : Sized emptyProfile
+unfolding emptyTables emptyField
+empty-sized = record { registers = refl; sequences = refl; gates = refl; shutters = refl; regions = refl }
+
+pub empty-in : inRange emptyProfile ≡ true
+unfolding emptyTables emptyField inRange all chunks sequenceIn regionIn fieldIn gateIn subckIn shutterIn
+empty-in = refl
+
+-- an answer's profile is the one at hand or the empty one
+answer-case : (P : Profile → Type 0) → P emptyProfile → (v : Verdict) (p : Profile) → P p → P (readAnswer v p .profile)
+answer-case P z v p h = cond-case P (accepts v) p emptyProfile (λ e. h) (λ e. z)
+
+pub records-sized : (s : List ℕ) (skip at : ℕ) (p : Profile) → Sized p → Sized (records skip at s p .profile)
+records-sized s skip at p z =
+    records-all (λ s. Unit {0}) Sized (λ r. Sized (r .profile)) (λ x xs u. tt)
+    (λ s p len q u h e. step-sized s p len q h e) (answer-case Sized empty-sized) s skip at p tt z
+
+pub records-in : (s : List ℕ) (skip at : ℕ) (p : Profile) → Bytes s → inRange p ≡ true → inRange (records skip at s p .profile) ≡ true
+records-in s skip at p b r =
+    records-all Bytes (λ p. inRange p ≡ true) (λ r. inRange (r .profile) ≡ true) (λ x xs b. bytes-tail b)
+    step-in (answer-case (λ p. inRange p ≡ true) empty-in) s skip at p b r
+
+-- ---- a refused answer
+
+-- "A refused read gives the empty profile"
+abbrev Emptied : ReadAnswer → Type 0
+Emptied r = (r .verdict .number ≡ 0 → ⊥) → r .profile ≡ emptyProfile
+
+answer-emptied : (v : Verdict) (p : Profile) → Emptied (readAnswer v p)
+answer-emptied v p h = rw (ne-eqb (v .number) 0 h)
+
+records-emptied : (s : List ℕ) (skip at : ℕ) (p : Profile) → Emptied (records skip at s p)
+records-emptied s skip at p =
+    records-all (λ s. Unit {0}) (λ p. Unit {0}) Emptied (λ x xs u. tt) (λ s p len q u h e. tt) (λ v p u. answer-emptied v p) s skip at p tt tt
+
+-- ---- the whole read
+
+-- what is judged, or was refused already
+judged-case : (Q : ReadAnswer → Type 0) (r : ReadAnswer) → (r .verdict .number ≡ 0 → Q (readAnswer (judge (r .profile)) (r .profile)))
+    → ((r .verdict .number ≡ 0 → ⊥) → Q r) → Q (judged r)
+judged-case Q r f g =
+    cond-case Q (accepts (r .verdict)) (readAnswer (judge (r .profile)) (r .profile)) r
+    (λ e. f (eqb-true (r .verdict .number) 0 e))
+    (λ e. g (eqb-false (r .verdict .number) 0 e))
+
+-- a judgement of number 0 on a profile in range is the check's
+judged-accepted : (q : Profile) → inRange q ≡ true → judge q .number ≡ 0 → checkProfile (readAnswer (judge q) q .profile) ≡ accepted
+judged-accepted q r e = rw (eq-eqb (judge q .number) 0 e) (check-judge q r ∙ judge-number q e)
+
+module _ (s : List ℕ) where
+  -- the answer after the records
+  abbrev taken : ReadAnswer
+  taken = records 0 0 s emptyProfile
+
+  -- refused for its length, refused by a record, or judged
+  read-case : (Q : ReadAnswer → Type 0) → Q (readAnswer (refused 1 0) emptyProfile) → ((taken .verdict .number ≡ 0 → ⊥) → Q taken)
+      → (taken .verdict .number ≡ 0 → Q (readAnswer (judge (taken .profile)) (taken .profile))) → Q (readScript s)
+  unfolding readScript
+  read-case Q f g h =
+      cond-case Q (leb (length s) 16384) (judged taken) (readAnswer (refused 1 0) emptyProfile) (λ e. judged-case Q taken h g) (λ e. f)
+
+  pub read-sized : Sized (readScript s .profile)
+  read-sized =
+      let z = records-sized s 0 0 emptyProfile empty-sized in
+      read-case (λ r. Sized (r .profile)) empty-sized (λ e. z) (λ e. answer-case Sized empty-sized (judge (taken .profile)) (taken .profile) z)
+
+  pub read-in : Bytes s → inRange (readScript s .profile) ≡ true
+  read-in b =
+      let z = records-in s 0 0 emptyProfile b empty-in in
+      read-case (λ r. inRange (r .profile) ≡ true) empty-in (λ e. z)
+      (λ e. answer-case (λ p. inRange p ≡ true) empty-in (judge (taken .profile)) (taken .profile) z)
+
+  pub read-refused : (readScript s .verdict .number ≡ 0 → ⊥) → readScript s .profile ≡ emptyProfile
+  read-refused =
+      read-case Emptied (answer-emptied (refused 1 0) emptyProfile) (λ e. records-emptied s 0 0 emptyProfile)
+      (λ e. answer-emptied (judge (taken .profile)) (taken .profile))
+
+  pub read-accepted : Bytes s → readScript s .verdict .number ≡ 0 → checkProfile (readScript s .profile) ≡ accepted
+  read-accepted b =
+      read-case (λ r. r .verdict .number ≡ 0 → checkProfile (r .profile) ≡ accepted) (λ e. absurd (omega arith)) (λ n e. absurd (n e))
+      (λ n. judged-accepted (taken .profile) (records-in s 0 0 emptyProfile b empty-in))
+
+  -- no other verdict has the number 0
+  pub read-verdict : readScript s .verdict .number ≡ 0 → readScript s .verdict ≡ accepted
+  read-verdict =
+      read-case (λ r. r .verdict .number ≡ 0 → r .verdict ≡ accepted) (λ e. absurd (omega arith)) (λ n e. absurd (n e))
+      (λ n. judge-number (taken .profile))

@@ -1,0 +1,133 @@
+-- Reading a script piece by piece: a piece takes the profile from one to the next, whatever follows it.
+-- A record that is read with anything behind it is such a piece, and pieces in a row are one.
+-- Assumes nothing.
+use mathlib.Core.Path.{_≡_, refl, sym, ap, _∙_}
+use mathlib.Core.Bool.{Bool, true, false, cond}
+use mathlib.Core.List.{List, [], _∷_, _++_, append-assoc, append-nil}
+use Prim.Native.Nat.{ℕ, zero, suc, _+_, _≤_, _<_}
+use native.Mathlib.Nat.{add-zero}
+use native.Mathlib.Omega.{arith}
+use borrow.Author.Tests.{ltb-false}
+use lib.Dec.{ltb}
+use lib.ListN.{length, take, drop, length-append, take-append-drop}
+use lib.Seq.{length-take-le}
+use Rattle.profile.specs.Lists.{chunks}
+use Rattle.profile.specs.Bytes.{numberAt}
+use Rattle.profile.specs.Values.{refused, accepted, readAnswer}
+use Rattle.profile.specs.Script.{known, allowed, fits, put, bodyOf, stop, next, step, records}
+use Rattle.profile.specs.declared.Profile.{Profile}
+use Rattle.profile.proofs.Laws.{by-cases}
+
+-- ---- one record
+
+-- what is known of a record that was taken
+pub record Taken (s : List ℕ) (p : Profile) (len : ℕ) (q : Profile) : Type 0 where
+  pub size : numberAt s 0 ≡ len
+  pub kind : known (numberAt s 2) ≡ true
+  pub right : allowed (numberAt s 2) (numberAt s 0) ≡ true
+  pub whole : 4 + numberAt s 0 ≤ length s
+  pub values : fits (numberAt s 2) (bodyOf s) ≡ true
+  pub gives : put (numberAt s 2) (bodyOf s) p ≡ q
+
+stop-next : {A : Type 0} (n len : ℕ) (q : Profile) → stop n ≡ next len q → A
+stop-next n len q e = let z : _≡_ {A = ℕ} 0 1 = cc in absurd (omega arith)
+
+pub step-taken : (s : List ℕ) (p : Profile) (len : ℕ) (q : Profile) → step s p ≡ next len q → Taken s p len q
+unfolding step
+step-taken s p len q e =
+    by-cases (ltb (length s) 4)
+    (λ a. stop-next 2 len q (rw a at e))
+    (λ a.
+    by-cases (known (numberAt s 2))
+    (λ b.
+    by-cases (allowed (numberAt s 2) (numberAt s 0))
+    (λ c.
+    by-cases (ltb (length s) (4 + numberAt s 0))
+    (λ d. stop-next 2 len q (rw (a, b, c, d) at e))
+    (λ d.
+    by-cases (fits (numberAt s 2) (bodyOf s))
+    (λ f.
+    let n : next (numberAt s 0) (put (numberAt s 2) (bodyOf s) p) ≡ next len q = rw (a, b, c, d, f) at e in
+    record {
+      size = cc;
+      kind = b;
+      right = c;
+      whole = ltb-false (length s) (4 + numberAt s 0) d;
+      values = f;
+      gives = cc;
+    })
+    (λ f. stop-next 5 len q (rw (a, b, c, d, f) at e))))
+    (λ c. stop-next 4 len q (rw (a, b, c) at e)))
+    (λ b. stop-next 3 len q (rw (a, b) at e)))
+
+pub step-next : (s : List ℕ) (p : Profile) (len : ℕ) (q : Profile) → step s p ≡ next len q → 4 + len ≤ length s
+step-next s p len q e = let t = step-taken s p len q e in omega arith
+
+-- ---- reading on
+
+pub records-skip : (ys rest : List ℕ) (at : ℕ) (p : Profile) → records (length ys) at (ys ++ rest) p ≡ records 0 (at + length ys) rest p
+unfolding records
+records-skip [] rest at p = rw add-zero
+records-skip (y ∷ ys) rest at p = records-skip ys rest (at + 1) p ∙ ap (λ (n : ℕ). records 0 n rest p) (omega arith)
+
+-- a record that is read, with whatever follows it, is passed over
+pub read-record : (r rest : List ℕ) (at len : ℕ) (p q : Profile) → length r ≡ 4 + len → step (r ++ rest) p ≡ next len q
+    → records 0 at (r ++ rest) p ≡ records 0 (at + length r) rest q
+unfolding records
+read-record [] rest at len p q e s = absurd (omega arith)
+read-record (x ∷ ys) rest at len p q e s =
+    let n : 3 + len ≡ length ys = omega arith in
+    rw (s, records, n) (records-skip ys rest (at + 1) q ∙ ap (λ (m : ℕ). records 0 m rest q) (omega arith))
+
+-- for a reader in code, whose s is what is left of the script from at on
+pub records-next : (s : List ℕ) (at len : ℕ) (p q : Profile) → 4 + len ≤ length s → step s p ≡ next len q
+    → records 0 at s p ≡ records 0 (at + (4 + len)) (drop (4 + len) s) q
+records-next s at len p q h e =
+    let t = take-append-drop (4 + len) s in
+    let l = length-take-le (4 + len) s h in
+    ap (λ (r : List ℕ). records 0 at r p) (sym t)
+    ∙ read-record (take (4 + len) s) (drop (4 + len) s) at len p q l (ap (λ (r : List ℕ). step r p) t ∙ e)
+    ∙ ap (λ (n : ℕ). records 0 (at + n) (drop (4 + len) s) q) l
+
+pub records-stop : (x : ℕ) (xs : List ℕ) (at n : ℕ) (p : Profile) → step (x ∷ xs) p ≡ stop n
+    → records 0 at (x ∷ xs) p ≡ readAnswer (refused n at) p
+unfolding records
+records-stop x xs at n p e = rw (e, records)
+
+pub records-done : (skip at : ℕ) (p : Profile) → records skip at [] p ≡ readAnswer accepted p
+unfolding records
+records-done skip at p = refl
+
+-- ---- a piece of a script that takes p to q
+
+abbrev pub Takes : List ℕ → Profile → Profile → Type 0
+Takes s p q = (at : ℕ) (rest : List ℕ) → records 0 at (s ++ rest) p ≡ records 0 (at + length s) rest q
+
+pub takes-record : (r : List ℕ) (len : ℕ) (p q : Profile) → length r ≡ 4 + len → ((rest : List ℕ) → step (r ++ rest) p ≡ next len q)
+    → Takes r p q
+takes-record r len p q e s at rest = read-record r rest at len p q e (s rest)
+
+pub takes-none : (p q : Profile) → p ≡ q → Takes [] p q
+takes-none p q e at rest = rw (e, add-zero)
+
+pub takes-then : (s t : List ℕ) (p q r : Profile) → Takes s p q → Takes t q r → Takes (s ++ t) p r
+takes-then s t p q r f g at rest =
+    rw append-assoc
+    (f at (t ++ rest) ∙ g (at + length s) rest ∙ ap (λ (m : ℕ). records 0 m rest r) (simp length-append (omega arith)))
+
+-- what is written only where b holds
+pub takes-cond : (b : Bool) (s : List ℕ) (p q : Profile) → (b ≡ true → Takes s p q) → (b ≡ false → p ≡ q) → Takes (cond b s []) p q
+takes-cond true s p q f g = f refl
+takes-cond false s p q f g = takes-none p q (g refl)
+
+-- chunks, each of which takes the profile from one state to the next
+pub takes-chunks : (n : ℕ) (f : ℕ → List ℕ) (st : ℕ → Profile) → ((i : ℕ) → i < n → Takes (f i) (st i) (st (suc i)))
+    → Takes (chunks n f) (st 0) (st n)
+unfolding chunks
+takes-chunks zero f st h = takes-none (st 0) (st 0) refl
+takes-chunks (suc n) f st h =
+    takes-then (chunks n f) (f n) (st 0) (st n) (st (suc n)) (takes-chunks n f st (λ i l. h i (omega arith))) (h n (omega arith))
+
+-- a whole script
+pub takes-all : (s : List ℕ) (p q : Profile) → Takes s p q → records 0 0 s p ≡ readAnswer accepted q
+takes-all s p q f = ap (λ (l : List ℕ). records 0 0 l p) (sym (append-nil s)) ∙ f 0 [] ∙ records-done 0 (0 + length s) q

@@ -1,0 +1,15 @@
+#!/usr/bin/env bash
+# Every place that docs/PROMISES.md cites, `crates/..: name, name`, is a file of the repository that declares those names.
+set -u
+cd "$(dirname "$0")/.." || exit 1
+cited=0; bad=0
+while read -r file names; do
+  [ -f "$file" ] || { echo "promises: no file $file"; bad=1; continue; }
+  for name in $names; do
+    cited=$((cited + 1))
+    grep -qE "^ *((unfoldable|abbrev|pub) )*(record |data |fn |struct )?${name//./\\.}( |\(|\{|$)" "$file" || { echo "promises: $file declares no $name"; bad=1; }
+  done
+done < <(grep -oE '`crates/[^`]*`' docs/PROMISES.md | tr -d '`' | sed 's/:/ /; s/,/ /g')
+[ "$cited" -gt 0 ] || { echo "promises: nothing is cited"; exit 1; }
+[ "$bad" -eq 0 ] && echo "promises: $cited names found where they are cited"
+exit "$bad"
