@@ -5,10 +5,10 @@ use mathlib.Core.Path.{_≡_, refl, sym, ap, _∙_}
 use mathlib.Core.Bool.{true, cond, _&&_}
 use mathlib.Core.List.{List, [], _∷_}
 use Prim.Native.Nat.{ℕ, zero, suc, _+_, _*_, _-_, _≤_, _<_}
-use native.Mathlib.Nat.{zero-add, le-trans}
+use native.Mathlib.Nat.{zero-mul, zero-add, le-trans}
 use native.Mathlib.Numerals.{add-one}
 use native.Mathlib.Omega.{arith}
-use borrow.Author.Tests.{ltb-true, ltb-false, leb-true, leb-false, eqb-true, eqb-false, lt-ltb, le-ltb, eq-eqb, ne-eqb}
+use borrow.Author.Tests.{lt-leb, ltb-true, ltb-false, leb-true, leb-false, eqb-true, eqb-false, lt-ltb, le-ltb, eq-eqb, ne-eqb}
 use lib.Dec.{ltb, leb, eqb}
 use Rattle.profile.proofs.Items.{items}
 use Rattle.profile.proofs.Laws.{cond-case, by-cases, and-left, and-right, and-intro, Passed, passed, sum-ext, sum-same, sum-le, sum-more, sum-below, sum-but-one, sum-upto, sum-parts, chunks-parts, last-below, last-is, last-starts, last-next}
@@ -24,6 +24,7 @@ use Rattle.profile.specs.Geometry.{
   lengthIn,
   lineLength,
   regionPixels,
+  productPixels,
   regionSize,
   pixelsBefore,
   pixelCount,
@@ -76,10 +77,8 @@ module _ (t : Tables) (f : Field) (i : ℕ) where
 
   -- both, for every field and every e; a region's size is the case of its end
   pub size-product : (e : ℕ)
-      → regionPixels t f i e
-      ≡ cond (ltb (firstLine f i) (f .lines) && leb (f .lines) e)
-      ((e - firstLine f i - 1) * sequenceAt t f i .length + f .last)
-      ((e - firstLine f i) * sequenceAt t f i .length)
+      → regionPixels t f i e ≡ productPixels (firstLine f i) (f .lines) (f .last) (sequenceAt t f i .length) e
+  unfolding productPixels
   size-product e =
       by-cases (ltb (firstLine f i) (f .lines))
       (λ a. by-cases (leb (f .lines) e)
@@ -90,6 +89,15 @@ module _ (t : Tables) (f : Field) (i : ℕ) where
   -- before a line that the field has
   pub origin-product : (line : ℕ) → line < f .lines → regionPixels t f i line ≡ (line - firstLine f i) * sequenceAt t f i .length
   origin-product line h = pixels-inner line (λ k l u q. omega arith)
+
+-- no line lies before the first
+pub product-none : (first lines last length line : ℕ) → line ≤ first → 0 ≡ productPixels first lines last length line
+unfolding productPixels
+product-none first lines last length line h =
+    let z : line - first ≡ 0 = omega arith in
+    by-cases (ltb first lines)
+    (λ a. let l = ltb-true first lines a in rw (a, lt-leb lines line (omega arith), z) (sym (zero-mul length)))
+    (λ a. rw (a, z) (sym (zero-mul length)))
 
 -- ---- the pixels before a line, and the places that there are
 

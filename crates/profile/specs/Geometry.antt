@@ -1,10 +1,10 @@
 -- Regions, lines and their lengths, and sums of line lengths.
 -- Assumes nothing.
-use Prim.Native.Nat.{ℕ, _+_, _-_, _%_, min}
+use Prim.Native.Nat.{ℕ, _+_, _-_, _*_, _%_, min}
 use mathlib.Core.List.{List, [], _∷_}
 use mathlib.Core.Bool.{Bool, cond, _&&_}
 use lib.ListN.{getD}
-use lib.Dec.{ltb, eqb}
+use lib.Dec.{ltb, leb, eqb}
 use Rattle.profile.specs.Lists.{sum, lastStart}
 use Rattle.profile.specs.Values.{emptyRegion, emptySequence}
 use Rattle.profile.specs.Patterns.{patternOf}
@@ -52,6 +52,11 @@ lineLength t f line = lengthIn t f (regionOf f line) line
 -- the pixels of a region's lines before a line; "A region's size is the sum of its line lengths."
 unfoldable pub regionPixels : Tables → Field → ℕ → ℕ → ℕ
 regionPixels t f i line = sum (lengthIn t f i) (firstLine f i) (line - firstLine f i)
+
+-- the product that code computes for that sum (proofs/Lines.antt, size-product): a region's lines from the first, before a line
+unfoldable pub productPixels : ℕ → ℕ → ℕ → ℕ → ℕ → ℕ
+productPixels first lines last length line =
+    cond (ltb first lines && leb lines line) ((line - first - 1) * length + last) ((line - first) * length)
 
 abbrev pub regionSize : Tables → Field → ℕ → ℕ
 regionSize t f i = regionPixels t f i (endLine f i)

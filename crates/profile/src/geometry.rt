@@ -17,6 +17,7 @@ ghost use Rattle.profile.specs.Geometry.{
   lengthIn,
   lineLength,
   regionPixels,
+  productPixels,
   pixelCount,
   hasPixel,
   repetitions,
@@ -27,7 +28,11 @@ pub fn region_count(field: Field) -> usize
     ensures { λ r. ⌜ r ≡ regionCount field ⌝ }
     ensures { λ r. ⌜ r ≤ 7 ⌝ }
 {
-    if field.count < 7 { field.count as usize } else { 7 }
+    if field.count < 7 {
+        field.count as usize
+    } else {
+        7
+    }
 }
 
 // Region i; all zeros where there is none.
@@ -136,6 +141,21 @@ fn product(n: u16, length: u16) -> u64
     (n as u64) * (length as u64)
 }
 
+// The pixels of the lines from a region's first on before a line: lines of one length, the field's last line having its own.
+fn lines_pixels(first: u16, lines: u16, last: u16, length: u16, line: u16) -> u64
+    ensures { λ r. ⌜ r ≡ productPixels first lines last length line ⌝ }
+    ensures { λ r. ⌜ r ≤ 4294901760 ⌝ }
+{
+    if line <= first {
+        return 0;
+    }
+    let n = line - first;
+    if (first < lines) & (lines <= line) {
+        return product(n - 1, length) + (last as u64);
+    }
+    product(n, length)
+}
+
 // The pixels of region i's lines before a line; its size, where that line is its end.
 pub fn region_pixels(tables: Tables, field: Field, i: usize, line: u16) -> u64
     ensures { λ r. ⌜ r ≡ regionPixels tables field i line ⌝ }
@@ -143,15 +163,7 @@ pub fn region_pixels(tables: Tables, field: Field, i: usize, line: u16) -> u64
 {
     let region = region_at(field, i);
     let sequence = sequence_at(tables, field, i);
-    let first = region.first;
-    if line <= first {
-        return 0;
-    }
-    let n = line - first;
-    if (first < field.lines) & (field.lines <= line) {
-        return product(n - 1, sequence.length) + (field.last as u64);
-    }
-    product(n, sequence.length)
+    lines_pixels(region.first, field.lines, field.last, sequence.length, line)
 }
 
 // The field's pixels.
@@ -179,5 +191,9 @@ pub fn has_pixel(tables: Tables, field: Field, line: u64, pixel: u64) -> bool
 pub fn repetitions(sequence: Sequence, line: u64) -> u16
     ensures { λ r. ⌜ r ≡ repetitions sequence line ⌝ }
 {
-    if line % 2 == 0 { sequence.odd } else { sequence.even }
+    if line % 2 == 0 {
+        sequence.odd
+    } else {
+        sequence.even
+    }
 }

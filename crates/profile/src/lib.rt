@@ -3,8 +3,8 @@
 ghost use mathlib.Core.Path.{_≡_};
 ghost use Rattle.profile.specs.Values.{accepted, refused, emptyProfile};
 
-mod patterns;
 mod geometry;
+mod patterns;
 
 pub use geometry::end_line;
 pub use geometry::has_pixel;
