@@ -14,10 +14,13 @@ use borrow.Author.Tests.{ltb-true, eqb-true, lt-ltb, eq-eqb, ne-eqb}
 use Rattle.profile.specs.Lists.{all, chunks}
 use Rattle.profile.specs.Values.{accepted, refused, emptyGate, emptyShutter}
 use Rattle.profile.specs.Geometry.{regionCount, regionAt, firstLine, sequenceAt, patternAt, lineLength, regionSize, gateLines}
-use Rattle.profile.specs.Rules.{Entry, rule, firstBroken, startsRight, maskRight, countsRight, endsRight, hasSecond, secondOf, secondRight, orderEntries, toggleEntries, runEntries, regionEntries, lineEntries, gateEntries, subckEntries, shutterEntries, rulesOf, judge, checkProfile}
+use Rattle.profile.specs.Rules.{
+  entriesAt,Entry, rule, firstBroken, startsRight, maskRight, countsRight, endsRight, hasSecond, secondOf, secondRight, orderEntries, toggleEntries, runEntries, regionEntries, lineEntries, gateEntries, subckEntries, shutterEntries, rulesOf, judge, checkProfile}
 use Rattle.profile.specs.Ranges.{inRange}
 use Rattle.profile.specs.Obeys.{Ranged, Rises, Masks, Counts, Ends, Seconds, Shuts, Obeys}
 use Rattle.profile.specs.declared.Mode.{Mode}
+use Rattle.profile.specs.declared.Sequence.{Sequence}
+use Rattle.profile.specs.declared.Pattern.{Pattern}
 use Rattle.profile.specs.declared.Tables.{Tables}
 use Rattle.profile.specs.declared.Field.{Field}
 use Rattle.profile.specs.declared.Profile.{Profile}
@@ -109,71 +112,61 @@ says-starts f i = says-and (says-lt (firstLine f i) (f .lines)) (by-place i)
         rw (ne-eqb (suc i) 0 n)
         ((λ e. ((λ z. absurd (n z)), λ m. ltb-true _ _ e)), λ w. lt-ltb _ _ (w .1 n))
 
--- 8 to 13 at one region
-pub record RegionObeys (t : Tables) (f : Field) (i : ℕ) : Type 0 where
-  pub given : sequenceAt t f i .present ≡ true
-  pub length : patternAt t f i .length ≡ 0 → ⊥
-  pub toggles : (k : ℕ) → k < 6 → Rises (regionAt f i .mode) (patternAt t f i) k
-  pub masks : Masks (regionAt f i .mode) (sequenceAt t f i .mask) (patternAt t f i)
-  pub counts : Counts (regionAt f i .mode) (sequenceAt t f i) (patternAt t f i)
-  pub ends : Ends (regionAt f i .mode) (sequenceAt t f i) (patternAt t f i) (regionSize t f i)
+-- 8 to 13 at one region, with its mode, its sequence, that sequence's pattern and its size
+pub record RegionObeys (m : Mode) (s : Sequence) (a : Pattern) (size : ℕ) : Type 0 where
+  pub given : s .present ≡ true
+  pub length : a .length ≡ 0 → ⊥
+  pub toggles : (k : ℕ) → k < 6 → Rises m a k
+  pub masks : Masks m (s .mask) a
+  pub counts : Counts m s a
+  pub ends : Ends m s a size
 
-module _ (t : Tables) (f : Field) (i : ℕ) where
-  toggles-numbered : (k : ℕ) → Numbered (toggleEntries t f i k)
+module _ (i : ℕ) (m : Mode) (s : Sequence) (a : Pattern) (size : ℕ) where
+  abbrev outputs : List Entry
+  outputs = chunks 6 (toggleEntries i m a)
+
+  abbrev firsts : List Entry
+  firsts = rule 8 i (s .present) ∷ rule 9 i (not (eqb (a .length) 0)) ∷ []
+
+  toggles-numbered : (k : ℕ) → Numbered (toggleEntries i m a k)
   toggles-numbered k = (lit≤ tt, tt)
 
-  says-output : (k : ℕ) → (firstBroken (toggleEntries t f i k) ≡ accepted) ↔ Rises (regionAt f i .mode) (patternAt t f i) k
-  says-output k = says-fine _ _ (refused 10 i) (lit≤ tt) (says-toggles (regionAt f i .mode) (patternAt t f i) k)
+  outputs-numbered : Numbered outputs
+  outputs-numbered = numbered-chunks 6 (toggleEntries i m a) toggles-numbered
 
-  region-says : (firstBroken (regionEntries t f i) ≡ accepted) ↔ RegionObeys t f i
-  unfolding regionEntries
-  region-says = (to, from)
-    where
-      m : Mode
-      m = regionAt f i .mode
+  says-output : (k : ℕ) → (firstBroken (toggleEntries i m a k) ≡ accepted) ↔ Rises m a k
+  says-output k = says-fine _ _ (refused 10 i) (lit≤ tt) (says-toggles m a k)
 
-      out : List Entry
-      out = chunks 6 (toggleEntries t f i)
+  region-obeyed : firstBroken (entriesAt i m s a size) ≡ accepted → RegionObeys m s a size
+  unfolding entriesAt
+  region-obeyed e =
+      let d = fine-left firsts (outputs ++ runEntries i m s a size) (lit≤ tt, (lit≤ tt, tt)) e in
+      let b = fine-right firsts (outputs ++ runEntries i m s a size) (lit≤ tt, (lit≤ tt, tt)) e in
+      let h = entries-hold firsts (lit≤ tt, (lit≤ tt, tt)) d in
+      let r = fine-right outputs (runEntries i m s a size) outputs-numbered b in
+      let g = entries-hold (runEntries i m s a size) (lit≤ tt, (lit≤ tt, (lit≤ tt, tt))) r in
+      let o = fine-left outputs (runEntries i m s a size) outputs-numbered b in
+      record {
+        given = h .0;
+        length = says-ne (a .length) 0 .0 (h .1 .0);
+        toggles = λ k l. says-output k .0 (fine-chunk 6 (toggleEntries i m a) toggles-numbered o k l);
+        masks = says-mask m (s .mask) a .0 (g .0);
+        counts = says-counts m s a .0 (g .1 .0);
+        ends = says-ends m s a size .0 (g .1 .1 .0);
+      }
 
-      numbered : Numbered out
-      numbered = numbered-chunks 6 (toggleEntries t f i) toggles-numbered
+  obeyed-region : RegionObeys m s a size → firstBroken (entriesAt i m s a size) ≡ accepted
+  unfolding entriesAt
+  obeyed-region o =
+      fine-then firsts (outputs ++ runEntries i m s a size) (lit≤ tt, (lit≤ tt, tt))
+      (hold-accepted firsts (o .given, (says-ne (a .length) 0 .1 (o .length), tt)))
+      ∙ fine-then outputs (runEntries i m s a size) outputs-numbered
+      (chunks-fine 6 (toggleEntries i m a) toggles-numbered (λ k l. says-output k .1 (o .toggles k l)))
+      ∙ hold-accepted (runEntries i m s a size)
+      (says-mask m (s .mask) a .1 (o .masks), (says-counts m s a .1 (o .counts), (says-ends m s a size .1 (o .ends), tt)))
 
-      nonzero : Says (not (eqb (patternAt t f i .length) 0)) (patternAt t f i .length ≡ 0 → ⊥)
-      nonzero = says-ne (patternAt t f i .length) 0
-
-      mask : Says (maskRight m (sequenceAt t f i .mask) (patternAt t f i)) (Masks m (sequenceAt t f i .mask) (patternAt t f i))
-      mask = says-mask m (sequenceAt t f i .mask) (patternAt t f i)
-
-      count : Says (countsRight m (sequenceAt t f i) (patternAt t f i)) (Counts m (sequenceAt t f i) (patternAt t f i))
-      count = says-counts m (sequenceAt t f i) (patternAt t f i)
-
-      end : Says (endsRight m (sequenceAt t f i) (patternAt t f i) (regionSize t f i)) (Ends m (sequenceAt t f i) (patternAt t f i) (regionSize t f i))
-      end = says-ends m (sequenceAt t f i) (patternAt t f i) (regionSize t f i)
-
-      two : List Entry
-      two = rule 8 i (sequenceAt t f i .present) ∷ rule 9 i (not (eqb (patternAt t f i .length) 0)) ∷ []
-
-      to : firstBroken (regionEntries t f i) ≡ accepted → RegionObeys t f i
-      to e =
-          let a = fine-left two (out ++ runEntries t f i) (lit≤ tt, (lit≤ tt, tt)) e in
-          let b = fine-right two (out ++ runEntries t f i) (lit≤ tt, (lit≤ tt, tt)) e in
-          let h = entries-hold two (lit≤ tt, (lit≤ tt, tt)) a in
-          let g = entries-hold (runEntries t f i) (lit≤ tt, (lit≤ tt, (lit≤ tt, tt))) (fine-right out (runEntries t f i) numbered b) in
-          record {
-            given = h .0;
-            length = nonzero .0 (h .1 .0);
-            toggles = λ k l. says-output k .0 (fine-chunk 6 (toggleEntries t f i) toggles-numbered (fine-left out (runEntries t f i) numbered b) k l);
-            masks = mask .0 (g .0);
-            counts = count .0 (g .1 .0);
-            ends = end .0 (g .1 .1 .0);
-          }
-
-      from : RegionObeys t f i → firstBroken (regionEntries t f i) ≡ accepted
-      from o =
-          fine-then two (out ++ runEntries t f i) (lit≤ tt, (lit≤ tt, tt)) (hold-accepted two (o .given, (nonzero .1 (o .length), tt)))
-          ∙ fine-then out (runEntries t f i) numbered
-          (chunks-fine 6 (toggleEntries t f i) toggles-numbered (λ k l. says-output k .1 (o .toggles k l)))
-          ∙ hold-accepted (runEntries t f i) (mask .1 (o .masks), (count .1 (o .counts), (end .1 (o .ends), tt)))
+  region-says : (firstBroken (entriesAt i m s a size) ≡ accepted) ↔ RegionObeys m s a size
+  region-says = (region-obeyed, obeyed-region)
 
 -- 14
 module _ (t : Tables) (f : Field) where
@@ -240,8 +233,12 @@ module _ (t : Tables) (f : Field) where
       fine-each (regionCount f) (orderEntries f) (λ i. Starts f i) (λ i. (lit≤ tt, tt))
       (λ i. says-fine _ _ (refused 7 i) (lit≤ tt) (says-starts f i))
 
-  regions-say : (firstBroken regions ≡ accepted) ↔ ((i : ℕ) → i < regionCount f → RegionObeys t f i)
-  regions-say = fine-each (regionCount f) (regionEntries t f) (λ i. RegionObeys t f i) (numbered-region t f) (region-says t f)
+  abbrev Region : ℕ → Type 0
+  Region i = RegionObeys (regionAt f i .mode) (sequenceAt t f i) (patternAt t f i) (regionSize t f i)
+
+  regions-say : (firstBroken regions ≡ accepted) ↔ ((i : ℕ) → i < regionCount f → Region i)
+  regions-say =
+      fine-each (regionCount f) (regionEntries t f) (λ i. Region i) (numbered-region t f) (λ i. region-says i _ _ _ _)
 
   abbrev GateObeys : ℕ → Type 0
   GateObeys k =
@@ -304,7 +301,7 @@ module _ (t : Tables) (f : Field) where
             let d : i + 1 - 1 ≡ i = omega arith in
             rw (e, d) (o .rule-7-rise i (omega arith))
 
-    region-obeys : (i : ℕ) → i < regionCount f → RegionObeys t f i
+    region-obeys : (i : ℕ) → i < regionCount f → Region i
     region-obeys i h =
         record {
           given = o .rule-8 i h;

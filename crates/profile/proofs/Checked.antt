@@ -15,6 +15,7 @@ use Rattle.profile.specs.Rules.{
   orderEntries,
   toggleEntries,
   runEntries,
+  entriesAt,
   regionEntries,
   lineEntries,
   gateEntries,
@@ -24,6 +25,9 @@ use Rattle.profile.specs.Rules.{
   judge,
   checkProfile,
 }
+use Rattle.profile.specs.declared.Mode.{Mode}
+use Rattle.profile.specs.declared.Sequence.{Sequence}
+use Rattle.profile.specs.declared.Pattern.{Pattern}
 use Rattle.profile.specs.declared.Tables.{Tables}
 use Rattle.profile.specs.declared.Field.{Field}
 use Rattle.profile.specs.declared.Profile.{Profile}
@@ -54,23 +58,24 @@ judge-rules p h = rw h
 
 -- ---- every rule has a number
 
+pub numbered-at : (i : ℕ) (m : Mode) (s : Sequence) (a : Pattern) (size : ℕ) → Numbered (entriesAt i m s a size)
+unfolding entriesAt
+numbered-at i m s a size = (
+  omega arith,
+  (
+    omega arith,
+    numbered-append (chunks 6 (toggleEntries i m a)) (runEntries i m s a size)
+    (numbered-chunks 6 (toggleEntries i m a) (λ k. (omega arith, tt)))
+    (omega arith, (omega arith, (omega arith, tt))),
+  ),
+)
+
 module _ (t : Tables) (f : Field) where
   pub numbered-order : (i : ℕ) → Numbered (orderEntries f i)
   numbered-order i = (omega arith, tt)
 
-  numbered-toggles : (i k : ℕ) → Numbered (toggleEntries t f i k)
-  numbered-toggles i k = (omega arith, tt)
-
   pub numbered-region : (i : ℕ) → Numbered (regionEntries t f i)
-  unfolding regionEntries
-  numbered-region i = (
-    omega arith,
-    (
-      omega arith,
-      numbered-append (chunks 6 (toggleEntries t f i)) (runEntries t f i) (numbered-chunks 6 (toggleEntries t f i) (numbered-toggles i))
-          (omega arith, (omega arith, (omega arith, tt))),
-    ),
-  )
+  numbered-region i = numbered-at i _ _ _ _
 
   pub numbered-lines : Numbered (lineEntries t f)
   unfolding lineEntries

@@ -140,25 +140,26 @@ shutterRight t f s =
 abbrev pub orderEntries : Field → ℕ → List Entry
 orderEntries f i = rule 7 i (startsRight f i) ∷ []
 
--- 10, an entry an output
-abbrev pub toggleEntries : Tables → Field → ℕ → ℕ → List Entry
-toggleEntries t f i k = rule 10 i (togglesRight (regionAt f i .mode) (patternAt t f i) k) ∷ []
+-- 10 of region i, an entry an output
+abbrev pub toggleEntries : ℕ → Mode → Pattern → ℕ → List Entry
+toggleEntries i m a k = rule 10 i (togglesRight m a k) ∷ []
 
--- 11 to 13 of a region
-abbrev pub runEntries : Tables → Field → ℕ → List Entry
-runEntries t f i =
-    rule 11 i (maskRight (regionAt f i .mode) (sequenceAt t f i .mask) (patternAt t f i))
-    ∷ rule 12 i (countsRight (regionAt f i .mode) (sequenceAt t f i) (patternAt t f i))
-    ∷ rule 13 i (endsRight (regionAt f i .mode) (sequenceAt t f i) (patternAt t f i) (regionSize t f i))
+-- 11 to 13 of region i
+abbrev pub runEntries : ℕ → Mode → Sequence → Pattern → ℕ → List Entry
+runEntries i m s a size =
+    rule 11 i (maskRight m (s .mask) a)
+    ∷ rule 12 i (countsRight m s a)
+    ∷ rule 13 i (endsRight m s a size)
     ∷ []
 
+-- 8 to 13 of region i, with its mode, its sequence, that sequence's pattern and its size
+unfoldable pub entriesAt : ℕ → Mode → Sequence → Pattern → ℕ → List Entry
+entriesAt i m s a size =
+    rule 8 i (s .present) ∷ rule 9 i (not (eqb (a .length) 0)) ∷ chunks 6 (toggleEntries i m a) ++ runEntries i m s a size
+
 -- "then, region by region, 8 to 13"
-unfoldable pub regionEntries : Tables → Field → ℕ → List Entry
-regionEntries t f i =
-    rule 8 i (sequenceAt t f i .present)
-    ∷ rule 9 i (not (eqb (patternAt t f i .length) 0))
-    ∷ chunks 6 (toggleEntries t f i)
-    ++ runEntries t f i
+abbrev pub regionEntries : Tables → Field → ℕ → List Entry
+regionEntries t f i = entriesAt i (regionAt f i .mode) (sequenceAt t f i) (patternAt t f i) (regionSize t f i)
 
 -- "then 14": every gate line is below the line count, and the second pattern is right on each
 unfoldable pub lineEntries : Tables → Field → List Entry

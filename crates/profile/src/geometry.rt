@@ -134,7 +134,7 @@ pub fn line_length(tables: Tables, field: Field, line: u64) -> u16
 }
 
 // n lines of one length, as far as they can be counted.
-fn product(n: u16, length: u16) -> u64
+pub(crate) fn product(n: u16, length: u16) -> u64
     ensures { λ r. ⌜ r ≡ n * length ⌝ }
     ensures { λ r. ⌜ r ≤ 4294836225 ⌝ }
 {

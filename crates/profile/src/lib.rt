@@ -4,6 +4,7 @@ ghost use mathlib.Core.Path.{_≡_};
 ghost use Rattle.profile.specs.Values.{accepted, refused, emptyProfile};
 
 mod geometry;
+mod rules;
 mod patterns;
 
 pub use geometry::end_line;

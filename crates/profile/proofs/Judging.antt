@@ -1,0 +1,197 @@
+-- The verdict of rules as the code finds it: part after part, entry after entry. A part that is fine hands on to the next, a broken one
+-- answers for the whole.
+-- Assumes nothing.
+use Prim.Native.Nat.{ℕ, zero, suc, _+_, _-_, _≤_, _<_}
+use native.Mathlib.Omega.{arith}
+use mathlib.Core.Path.{_≡_, refl, sym, ap, _∙_}
+use mathlib.Core.Bool.{Bool, true, false, cond, not, _&&_, _||_}
+use mathlib.Core.List.{List, [], _∷_, _++_, append-assoc, map}
+use lib.ListN.{getD}
+use lib.Dec.{eqb, ltb, lit≤}
+use borrow.Author.Tests.{eq-eqb, ne-eqb, lt-ltb, le-ltb}
+use Rattle.profile.specs.Lists.{all, chunks}
+use Rattle.profile.specs.Values.{accepted, refused, emptyGate}
+use Rattle.profile.specs.Geometry.{regionCount, regionAt, sequenceAt, patternAt, regionSize, gateLines}
+use Rattle.profile.specs.Rules.{
+  Entry,
+  rule,
+  firstBroken,
+  togglesRight,
+  maskRight,
+  countsRight,
+  endsRight,
+  hasSecond,
+  secondOf,
+  secondRight,
+  gateRight,
+  orderEntries,
+  toggleEntries,
+  runEntries,
+  entriesAt,
+  regionEntries,
+  lineEntries,
+  gateEntries,
+  subckEntries,
+  shutterEntries,
+  rulesOf,
+}
+use Rattle.profile.specs.declared.Mode.{Mode}
+use Rattle.profile.specs.declared.Sequence.{Sequence}
+use Rattle.profile.specs.declared.Pattern.{Pattern}
+use Rattle.profile.specs.declared.Tables.{Tables}
+use Rattle.profile.specs.declared.Field.{Field}
+use Rattle.profile.specs.declared.Verdict.{Verdict}
+use Rattle.profile.proofs.Laws.{by-cases, all-one, all-append, chunks-more, chunks-add}
+use Rattle.profile.proofs.Entries.{Numbered, fine-then, broken-then, number-accepted, numbered-chunks, numbered-append}
+use Rattle.profile.proofs.Checked.{numbered-order, numbered-region, numbered-lines, numbered-gates}
+
+-- ---- two parts
+
+not-accepted : (v : Verdict) → (v .number ≡ 0 → ⊥) → v ≡ accepted → ⊥
+not-accepted v n e = n (ap (λ (w : Verdict). w .number) e)
+
+pub part-broken : (a b : List Entry) {v : Verdict} → v ≡ firstBroken a → (v .number ≡ 0 → ⊥) → v ≡ firstBroken (a ++ b)
+part-broken a b {v} e n = e ∙ sym (broken-then a b (λ z. not-accepted v n (e ∙ z)))
+
+pub part-fine : (a b : List Entry) {v : Verdict} → Numbered a → v ≡ firstBroken a → v .number ≡ 0 → firstBroken (a ++ b) ≡ firstBroken b
+part-fine a b m e z = fine-then a b m (number-accepted a m (sym (ap (λ (w : Verdict). w .number) e) ∙ z))
+
+-- ---- a loop over chunks
+
+pub chunks-start : (f : ℕ → List Entry) → firstBroken (chunks 0 f) ≡ accepted
+unfolding chunks firstBroken
+chunks-start f = refl
+
+module _ (f : ℕ → List Entry) (m : (i : ℕ) → Numbered (f i)) (i : ℕ) (done : firstBroken (chunks i f) ≡ accepted) where
+  here : firstBroken (chunks (i + 1) f) ≡ firstBroken (f i)
+  here = ap firstBroken (chunks-more i f) ∙ fine-then (chunks i f) (f i) (numbered-chunks i f m) done
+
+  pub chunks-on : firstBroken (f i) ≡ accepted → firstBroken (chunks (i + 1) f) ≡ accepted
+  chunks-on e = here ∙ e
+
+  pub chunks-fine-on : {v : Verdict} → v ≡ firstBroken (f i) → v .number ≡ 0 → firstBroken (chunks (i + 1) f) ≡ accepted
+  chunks-fine-on e z = here ∙ number-accepted (f i) (m i) (sym (ap (λ (w : Verdict). w .number) e) ∙ z)
+
+  pub chunks-stop : (n : ℕ) {v : Verdict} → i < n → v ≡ firstBroken (f i) → (v .number ≡ 0 → ⊥) → v ≡ firstBroken (chunks n f)
+  chunks-stop n h e z =
+      let k : (i + 1) + (n - (i + 1)) ≡ n = omega arith in
+      part-broken (chunks (i + 1) f) (chunks (n - (i + 1)) (λ j. f (i + 1 + j))) (e ∙ sym here) z
+      ∙ ap firstBroken (sym (chunks-add (i + 1) (n - (i + 1)) f))
+      ∙ ap (λ (j : ℕ). firstBroken (chunks j f)) k
+
+-- ---- one entry
+
+pub one-fine : (n at : ℕ) {b : Bool} → b ≡ true → firstBroken (rule n at b ∷ []) ≡ accepted
+unfolding firstBroken
+one-fine n at e = rw e
+
+pub one-broken : (n at : ℕ) {b : Bool} → b ≡ false → refused n at ≡ firstBroken (rule n at b ∷ [])
+unfolding firstBroken
+one-broken n at e = rw e
+
+all-none : all [] ≡ true
+unfolding all
+all-none = refl
+
+-- six tests at once
+pub all-six : (f : ℕ → Bool) → f 0 && f 1 && f 2 && f 3 && f 4 && f 5 ≡ all (chunks 6 (λ k. f k ∷ []))
+unfolding chunks
+all-six f = simp (all-append, all-one, all-none)
+
+-- 15 on a gate line of the given length: what `gateEntries` is at the field's gate line
+abbrev pub gatesOn : Tables → ℕ → ℕ → List Entry
+gatesOn t length k = rule 15 k (all (gateRight (getD (t .gates) k emptyGate) length ∷ [])) ∷ []
+
+-- entries of one verdict, in chunks of one
+module _ (number at : ℕ) (numbered : 1 ≤ number) (b : ℕ → Bool) where
+  abbrev entry : ℕ → List Entry
+  entry k = rule number at (b k) ∷ []
+
+  abbrev test : ℕ → List Bool
+  test k = b k ∷ []
+
+  one-verdict : (n : ℕ) → firstBroken (entry n) ≡ cond (b n) accepted (refused number at)
+  unfolding firstBroken
+  one-verdict n = refl
+
+  tests-more : (n : ℕ) → all (chunks n test ++ test n) ≡ all (chunks n test) && b n
+  tests-more n = all-append (chunks n test) (test n) ∙ ap (λ (x : Bool). all (chunks n test) && x) (all-one (b n))
+
+  pub same-verdict : (n : ℕ) → firstBroken (chunks n entry) ≡ cond (all (chunks n test)) accepted (refused number at)
+  unfolding chunks firstBroken all
+  same-verdict zero = refl
+  same-verdict (suc n) =
+      let ih = same-verdict n in
+      by-cases (all (chunks n test))
+      (λ e.
+      fine-then (chunks n entry) (entry n) (numbered-chunks n entry (λ k. (numbered, tt))) (ih ∙ rw e)
+      ∙ one-verdict n
+      ∙ rw (tests-more n, e))
+      (λ e.
+      let q : firstBroken (chunks n entry) ≡ refused number at = ih ∙ rw e in
+      broken-then (chunks n entry) (entry n) (λ z. omega (arith, ap (λ (v : Verdict). v .number) (sym z ∙ q)))
+      ∙ q
+      ∙ rw (tests-more n, e))
+
+-- ---- 8 to 13 at one region
+
+module _ (i : ℕ) (m : Mode) (s : Sequence) (a : Pattern) (size : ℕ) where
+  abbrev Toggles : Bool
+  Toggles = all (chunks 6 (λ k. togglesRight m a k ∷ []))
+
+  pub broken-8 : s .present ≡ false → refused 8 i ≡ firstBroken (entriesAt i m s a size)
+  unfolding entriesAt firstBroken
+  broken-8 e = ap (λ (b : Bool). cond b _ (refused 8 i)) (sym e)
+
+  module _ (given : s .present ≡ true) where
+    after-8 : firstBroken (entriesAt i m s a size)
+        ≡ firstBroken (rule 9 i (not (eqb (a .length) 0)) ∷ chunks 6 (toggleEntries i m a) ++ runEntries i m s a size)
+    unfolding entriesAt firstBroken
+    after-8 = ap (λ (b : Bool). cond b _ (refused 8 i)) given
+
+    pub broken-9 : a .length ≡ 0 → refused 9 i ≡ firstBroken (entriesAt i m s a size)
+    unfolding firstBroken
+    broken-9 e = sym (after-8 ∙ ap (λ (b : Bool). cond (not b) _ (refused 9 i)) (eq-eqb (a .length) 0 e))
+
+    module _ (some : a .length ≡ 0 → ⊥) where
+      after-9 : firstBroken (entriesAt i m s a size) ≡ firstBroken (chunks 6 (toggleEntries i m a) ++ runEntries i m s a size)
+      unfolding firstBroken
+      after-9 = after-8 ∙ ap (λ (b : Bool). cond (not b) _ (refused 9 i)) (ne-eqb (a .length) 0 some)
+
+      toggles-numbered : Numbered (chunks 6 (toggleEntries i m a))
+      toggles-numbered = numbered-chunks 6 (toggleEntries i m a) (λ k. (lit≤ tt, tt))
+
+      -- the six entries of 10 have one verdict
+      toggles-verdict : firstBroken (chunks 6 (toggleEntries i m a)) ≡ cond Toggles accepted (refused 10 i)
+      toggles-verdict = same-verdict 10 i (lit≤ tt) (λ k. togglesRight m a k) 6
+
+      pub broken-10 : Toggles ≡ false → refused 10 i ≡ firstBroken (entriesAt i m s a size)
+      broken-10 e =
+          part-broken (chunks 6 (toggleEntries i m a)) (runEntries i m s a size) (sym (toggles-verdict ∙ rw e)) (omega arith) ∙ sym after-9
+
+      module _ (toggles : Toggles ≡ true) where
+        after-10 : firstBroken (entriesAt i m s a size) ≡ firstBroken (runEntries i m s a size)
+        after-10 = after-9 ∙ fine-then (chunks 6 (toggleEntries i m a)) (runEntries i m s a size) toggles-numbered (toggles-verdict ∙ rw toggles)
+
+        -- 11, 12 and 13 by their tests
+        run-verdict : (b c d : Bool) → maskRight m (s .mask) a ≡ b → countsRight m s a ≡ c → endsRight m s a size ≡ d
+            → firstBroken (entriesAt i m s a size) ≡ firstBroken (rule 11 i b ∷ rule 12 i c ∷ rule 13 i d ∷ [])
+        run-verdict b c d p q r = after-10 ∙ λ j. firstBroken (rule 11 i (p j) ∷ rule 12 i (q j) ∷ rule 13 i (r j) ∷ [])
+
+        pub broken-11 : maskRight m (s .mask) a ≡ false → refused 11 i ≡ firstBroken (entriesAt i m s a size)
+        unfolding firstBroken
+        broken-11 e = sym (run-verdict false _ _ e refl refl)
+
+        module _ (masks : maskRight m (s .mask) a ≡ true) where
+          pub broken-12 : countsRight m s a ≡ false → refused 12 i ≡ firstBroken (entriesAt i m s a size)
+          unfolding firstBroken
+          broken-12 e = sym (run-verdict true false _ masks e refl)
+
+          module _ (counts : countsRight m s a ≡ true) where
+            pub broken-13 : endsRight m s a size ≡ false → refused 13 i ≡ firstBroken (entriesAt i m s a size)
+            unfolding firstBroken
+            broken-13 e = sym (run-verdict true true false masks counts e)
+
+            pub region-fine : endsRight m s a size ≡ true → accepted ≡ firstBroken (entriesAt i m s a size)
+            unfolding firstBroken
+            region-fine e = sym (run-verdict true true true masks counts e)
