@@ -14,8 +14,7 @@ use borrow.Author.Tests.{ltb-true, eqb-true, lt-ltb, eq-eqb, ne-eqb}
 use Rattle.profile.specs.Lists.{all, chunks}
 use Rattle.profile.specs.Values.{accepted, refused, emptyGate, emptyShutter}
 use Rattle.profile.specs.Geometry.{regionCount, regionAt, firstLine, sequenceAt, patternAt, lineLength, regionSize, gateLines}
-use Rattle.profile.specs.Rules.{
-  entriesAt,Entry, rule, firstBroken, startsRight, maskRight, countsRight, endsRight, hasSecond, secondOf, secondRight, orderEntries, toggleEntries, runEntries, regionEntries, lineEntries, gateEntries, subckEntries, shutterEntries, rulesOf, judge, checkProfile}
+use Rattle.profile.specs.Rules.{entriesAt, Entry, rule, firstBroken, startsRight, hasSecond, secondOf, secondRight, orderEntries, toggleEntries, runEntries, regionEntries, lineEntries, gateEntries, subckEntries, shutterEntries, rulesOf, judge, checkProfile}
 use Rattle.profile.specs.Ranges.{inRange}
 use Rattle.profile.specs.Obeys.{Ranged, Rises, Masks, Counts, Ends, Seconds, Shuts, Obeys}
 use Rattle.profile.specs.declared.Mode.{Mode}

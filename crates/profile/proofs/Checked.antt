@@ -65,8 +65,8 @@ numbered-at i m s a size = (
   (
     omega arith,
     numbered-append (chunks 6 (toggleEntries i m a)) (runEntries i m s a size)
-    (numbered-chunks 6 (toggleEntries i m a) (λ k. (omega arith, tt)))
-    (omega arith, (omega arith, (omega arith, tt))),
+        (numbered-chunks 6 (toggleEntries i m a) (λ k. (omega arith, tt)))
+        (omega arith, (omega arith, (omega arith, tt))),
   ),
 )
 

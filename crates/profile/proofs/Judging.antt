@@ -11,7 +11,7 @@ use lib.Dec.{eqb, ltb, lit≤}
 use borrow.Author.Tests.{eq-eqb, ne-eqb, lt-ltb, le-ltb}
 use Rattle.profile.specs.Lists.{all, chunks}
 use Rattle.profile.specs.Values.{accepted, refused, emptyGate}
-use Rattle.profile.specs.Geometry.{regionCount, regionAt, sequenceAt, patternAt, regionSize, gateLines}
+use Rattle.profile.specs.Geometry.{regionCount, gateLines}
 use Rattle.profile.specs.Rules.{
   Entry,
   rule,
@@ -34,16 +34,18 @@ use Rattle.profile.specs.Rules.{
   subckEntries,
   shutterEntries,
   rulesOf,
+  judge,
 }
 use Rattle.profile.specs.declared.Mode.{Mode}
 use Rattle.profile.specs.declared.Sequence.{Sequence}
 use Rattle.profile.specs.declared.Pattern.{Pattern}
 use Rattle.profile.specs.declared.Tables.{Tables}
 use Rattle.profile.specs.declared.Field.{Field}
+use Rattle.profile.specs.declared.Profile.{Profile}
 use Rattle.profile.specs.declared.Verdict.{Verdict}
-use Rattle.profile.proofs.Laws.{by-cases, all-one, all-append, chunks-more, chunks-add}
-use Rattle.profile.proofs.Entries.{Numbered, fine-then, broken-then, number-accepted, numbered-chunks, numbered-append}
-use Rattle.profile.proofs.Checked.{numbered-order, numbered-region, numbered-lines, numbered-gates}
+use Rattle.profile.proofs.Laws.{by-cases, or-left, all-one, all-append, chunks-more, chunks-add}
+use Rattle.profile.proofs.Entries.{Numbered, fine-then, broken-then, number-accepted, numbered-chunks}
+use Rattle.profile.proofs.Checked.{judge-rules}
 
 -- ---- two parts
 
@@ -79,15 +81,22 @@ module _ (f : ℕ → List Entry) (m : (i : ℕ) → Numbered (f i)) (i : ℕ) (
       ∙ ap firstBroken (sym (chunks-add (i + 1) (n - (i + 1)) f))
       ∙ ap (λ (j : ℕ). firstBroken (chunks j f)) k
 
--- ---- one entry
+-- ---- one entry, and what follows it
+
+pub head-fine : (n at : ℕ) {b : Bool} (es : List Entry) → b ≡ true → firstBroken (rule n at b ∷ es) ≡ firstBroken es
+unfolding firstBroken
+head-fine n at es e = rw e
+
+pub head-broken : (n at : ℕ) {b : Bool} (es : List Entry) → b ≡ false → refused n at ≡ firstBroken (rule n at b ∷ es)
+unfolding firstBroken
+head-broken n at es e = rw e
 
 pub one-fine : (n at : ℕ) {b : Bool} → b ≡ true → firstBroken (rule n at b ∷ []) ≡ accepted
 unfolding firstBroken
-one-fine n at e = rw e
+one-fine n at e = head-fine n at [] e
 
 pub one-broken : (n at : ℕ) {b : Bool} → b ≡ false → refused n at ≡ firstBroken (rule n at b ∷ [])
-unfolding firstBroken
-one-broken n at e = rw e
+one-broken n at e = head-broken n at [] e
 
 all-none : all [] ≡ true
 unfolding all
@@ -140,23 +149,21 @@ module _ (i : ℕ) (m : Mode) (s : Sequence) (a : Pattern) (size : ℕ) where
   Toggles = all (chunks 6 (λ k. togglesRight m a k ∷ []))
 
   pub broken-8 : s .present ≡ false → refused 8 i ≡ firstBroken (entriesAt i m s a size)
-  unfolding entriesAt firstBroken
-  broken-8 e = ap (λ (b : Bool). cond b _ (refused 8 i)) (sym e)
+  unfolding entriesAt
+  broken-8 e = head-broken 8 i _ e
 
   module _ (given : s .present ≡ true) where
     after-8 : firstBroken (entriesAt i m s a size)
         ≡ firstBroken (rule 9 i (not (eqb (a .length) 0)) ∷ chunks 6 (toggleEntries i m a) ++ runEntries i m s a size)
-    unfolding entriesAt firstBroken
-    after-8 = ap (λ (b : Bool). cond b _ (refused 8 i)) given
+    unfolding entriesAt
+    after-8 = head-fine 8 i _ given
 
     pub broken-9 : a .length ≡ 0 → refused 9 i ≡ firstBroken (entriesAt i m s a size)
-    unfolding firstBroken
-    broken-9 e = sym (after-8 ∙ ap (λ (b : Bool). cond (not b) _ (refused 9 i)) (eq-eqb (a .length) 0 e))
+    broken-9 e = sym (after-8 ∙ sym (head-broken 9 i _ (ap not (eq-eqb (a .length) 0 e))))
 
     module _ (some : a .length ≡ 0 → ⊥) where
       after-9 : firstBroken (entriesAt i m s a size) ≡ firstBroken (chunks 6 (toggleEntries i m a) ++ runEntries i m s a size)
-      unfolding firstBroken
-      after-9 = after-8 ∙ ap (λ (b : Bool). cond (not b) _ (refused 9 i)) (ne-eqb (a .length) 0 some)
+      after-9 = after-8 ∙ head-fine 9 i _ (ap not (ne-eqb (a .length) 0 some))
 
       toggles-numbered : Numbered (chunks 6 (toggleEntries i m a))
       toggles-numbered = numbered-chunks 6 (toggleEntries i m a) (λ k. (lit≤ tt, tt))
@@ -173,25 +180,74 @@ module _ (i : ℕ) (m : Mode) (s : Sequence) (a : Pattern) (size : ℕ) where
         after-10 : firstBroken (entriesAt i m s a size) ≡ firstBroken (runEntries i m s a size)
         after-10 = after-9 ∙ fine-then (chunks 6 (toggleEntries i m a)) (runEntries i m s a size) toggles-numbered (toggles-verdict ∙ rw toggles)
 
-        -- 11, 12 and 13 by their tests
-        run-verdict : (b c d : Bool) → maskRight m (s .mask) a ≡ b → countsRight m s a ≡ c → endsRight m s a size ≡ d
-            → firstBroken (entriesAt i m s a size) ≡ firstBroken (rule 11 i b ∷ rule 12 i c ∷ rule 13 i d ∷ [])
-        run-verdict b c d p q r = after-10 ∙ λ j. firstBroken (rule 11 i (p j) ∷ rule 12 i (q j) ∷ rule 13 i (r j) ∷ [])
-
         pub broken-11 : maskRight m (s .mask) a ≡ false → refused 11 i ≡ firstBroken (entriesAt i m s a size)
-        unfolding firstBroken
-        broken-11 e = sym (run-verdict false _ _ e refl refl)
+        broken-11 e = head-broken 11 i _ e ∙ sym after-10
 
         module _ (masks : maskRight m (s .mask) a ≡ true) where
+          after-11 : firstBroken (entriesAt i m s a size)
+              ≡ firstBroken (rule 12 i (countsRight m s a) ∷ rule 13 i (endsRight m s a size) ∷ [])
+          after-11 = after-10 ∙ head-fine 11 i _ masks
+
           pub broken-12 : countsRight m s a ≡ false → refused 12 i ≡ firstBroken (entriesAt i m s a size)
-          unfolding firstBroken
-          broken-12 e = sym (run-verdict true false _ masks e refl)
+          broken-12 e = head-broken 12 i _ e ∙ sym after-11
 
           module _ (counts : countsRight m s a ≡ true) where
+            after-12 : firstBroken (entriesAt i m s a size) ≡ firstBroken (rule 13 i (endsRight m s a size) ∷ [])
+            after-12 = after-11 ∙ head-fine 12 i _ counts
+
             pub broken-13 : endsRight m s a size ≡ false → refused 13 i ≡ firstBroken (entriesAt i m s a size)
-            unfolding firstBroken
-            broken-13 e = sym (run-verdict true true false masks counts e)
+            broken-13 e = one-broken 13 i e ∙ sym after-12
 
             pub region-fine : endsRight m s a size ≡ true → accepted ≡ firstBroken (entriesAt i m s a size)
-            unfolding firstBroken
-            region-fine e = sym (run-verdict true true true masks counts e)
+            region-fine e = sym (after-12 ∙ one-fine 13 i e)
+
+-- ---- 14
+
+module _ (t : Tables) (f : Field) where
+  abbrev Below : Bool
+  Below = all (map (λ (g : ℕ). ltb g (f .lines)) (gateLines f))
+
+  abbrev Second : Bool
+  Second = secondRight t f (secondOf t f) (f .gate)
+
+  pub line-out : f .lines ≤ f .gate → refused 14 0 ≡ firstBroken (lineEntries t f)
+  unfolding lineEntries
+  line-out h = head-broken 14 0 _ (all-one _ ∙ le-ltb (f .gate) (f .lines) h)
+
+  module _ (h : f .gate < f .lines) where
+    after-line : firstBroken (lineEntries t f)
+        ≡ firstBroken (rule 14 0 (not (hasSecond f) || all (map (secondRight t f (secondOf t f)) (gateLines f))) ∷ [])
+    unfolding lineEntries
+    after-line = head-fine 14 0 _ (all-one _ ∙ lt-ltb (f .gate) (f .lines) h)
+
+    pub no-second : f .second ≡ 65535 → accepted ≡ firstBroken (lineEntries t f)
+    no-second e = sym (after-line ∙ one-fine 14 0 (or-left _ _ (ap (λ (b : Bool). not (not b)) (eq-eqb (f .second) 65535 e))))
+
+    module _ (n : f .second ≡ 65535 → ⊥) where
+      second-is : not (hasSecond f) || all (map (secondRight t f (secondOf t f)) (gateLines f)) ≡ Second
+      second-is = ap (λ (b : Bool). not (not b) || all (Second ∷ [])) (ne-eqb (f .second) 65535 n) ∙ all-one Second
+
+      pub second-broken : Second ≡ false → refused 14 0 ≡ firstBroken (lineEntries t f)
+      second-broken e = one-broken 14 0 (second-is ∙ e) ∙ sym after-line
+
+      pub second-fine : Second ≡ true → accepted ≡ firstBroken (lineEntries t f)
+      second-fine e = sym (after-line ∙ one-fine 14 0 (second-is ∙ e))
+
+  -- ---- 7 to 17 in two parts
+
+  pub rules-parts : firstBroken (rulesOf t f)
+      ≡ firstBroken
+      (chunks (regionCount f) (orderEntries f)
+      ++ (chunks (regionCount f) (regionEntries t f)
+      ++ (lineEntries t f ++ (chunks 5 (gateEntries t f) ++ (subckEntries t ++ chunks 2 (shutterEntries t f))))))
+  unfolding rulesOf
+  rules-parts = simp append-assoc
+
+-- ---- 6
+
+pub judge-none : (p : Profile) → p .field .present ≡ false → refused 6 0 ≡ judge p
+unfolding judge
+judge-none p e = sym (ap (λ (b : Bool). cond b (firstBroken (rulesOf (p .tables) (p .field))) (refused 6 0)) e)
+
+pub judge-some : (p : Profile) → p .field .present ≡ true → firstBroken (rulesOf (p .tables) (p .field)) ≡ judge p
+judge-some p e = sym (judge-rules p e)

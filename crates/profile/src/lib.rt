@@ -4,8 +4,8 @@ ghost use mathlib.Core.Path.{_≡_};
 ghost use Rattle.profile.specs.Values.{accepted, refused, emptyProfile};
 
 mod geometry;
-mod rules;
 mod patterns;
+mod rules;
 
 pub use geometry::end_line;
 pub use geometry::has_pixel;

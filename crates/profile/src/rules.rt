@@ -1,4 +1,14 @@
 // The rules over a profile, in their order, and the verdict of the first that is broken.
+use crate::Field;
+use crate::Gate;
+use crate::Mode;
+use crate::Pattern;
+use crate::Profile;
+use crate::Sequence;
+use crate::Shutter;
+use crate::Subck;
+use crate::Tables;
+use crate::Verdict;
 use crate::accept;
 use crate::geometry::end_line;
 use crate::geometry::has_pixel;
@@ -15,16 +25,6 @@ use crate::patterns::pattern_of;
 use crate::patterns::rows_of;
 use crate::patterns::toggle_fault;
 use crate::refuse;
-use crate::Field;
-use crate::Gate;
-use crate::Mode;
-use crate::Pattern;
-use crate::Profile;
-use crate::Sequence;
-use crate::Shutter;
-use crate::Subck;
-use crate::Tables;
-use crate::Verdict;
 ghost use mathlib.Core.Path.{_≡_};
 ghost use mathlib.Core.List.{[], _∷_, _++_};
 ghost use mathlib.Core.Bool.{_&&_};
@@ -313,8 +313,18 @@ fn shutter_right(tables: Tables, field: Field, shutter: Shutter) -> bool
     ensures { λ r. ⌜ r ≡ shutterRight tables field shutter ⌝ }
 {
     !shutter.present
-        | (has_pixel(tables, field, shutter.on_line as u64, shutter.on_pixel as u64)
-            & has_pixel(tables, field, shutter.off_line as u64, shutter.off_pixel as u64)
+        | (has_pixel(
+            tables,
+            field,
+            shutter.on_line as u64,
+            shutter.on_pixel as u64,
+        )
+            & has_pixel(
+                tables,
+                field,
+                shutter.off_line as u64,
+                shutter.off_pixel as u64,
+            )
             & ((shutter.on_line < shutter.off_line)
                 | ((shutter.on_line == shutter.off_line) & (shutter.on_pixel < shutter.off_pixel))))
 }

@@ -1,7 +1,7 @@
 -- The test that a next region exists decides; there is none past the seventh.
 -- Assumes nothing.
 use borrow.Author.Tests.{lt-ltb, le-ltb}
-use mathlib.Core.Path.{sym, ap, _∙_}
+use mathlib.Core.Path.{ap}
 use Rattle.profile.specs.Geometry.{endLine, regionCount}
 use Prim.Native.Nat.{_+_}
 use Rattle.profile.specs.declared.Region.{Region}

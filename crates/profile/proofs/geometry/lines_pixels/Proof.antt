@@ -1,6 +1,6 @@
 -- Each branch decides the test of the product form; before the first line there are none.
 -- Assumes nothing.
-use mathlib.Core.Path.{ap, _∙_}
+use mathlib.Core.Path.{ap}
 use Prim.Native.Nat.{ℕ, _+_}
 use Rattle.profile.specs.Geometry.{productPixels}
 use Rattle.profile.proofs.Lines.{product-none}

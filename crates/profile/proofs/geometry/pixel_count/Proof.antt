@@ -1,6 +1,6 @@
 -- The loop keeps the pixels of the lines passed, each line at most 65,535 of them.
 -- Assumes nothing.
-use Prim.Native.Nat.{_≤_, _-_, _*_, _+_}
+use Prim.Native.Nat.{_≤_, _-_, _*_}
 use mathlib.Core.Path.{_≡_, sym, ap, _∙_}
 use Rattle.profile.specs.Geometry.{pixelsBefore}
 use Rattle.profile.proofs.Lines.{before-none, before-more, before-all}

@@ -1,8 +1,6 @@
 -- The region's mode, sequence, pattern and size are those of the definition.
 -- Assumes nothing.
-use mathlib.Core.Path.{refl, _∙_, ap}
-use Rattle.profile.specs.declared.Region.{Region}
-use Rattle.profile.specs.declared.Sequence.{Sequence}
+use mathlib.Core.Path.{_∙_}
 use borrow.Author.Needs.{needs}
 use Rattle.profile.proofs.rules.region_verdict.Statement.{statement}
 use Rattle.profile.proofs.rules.region_verdict.Tie as tie
@@ -26,7 +24,7 @@ run-verdict-requires : tie.Need-run-verdict-requires
 run-verdict-requires c κs = search needs
 
 returns : tie.Need-returns
-returns c = 
+returns c =
     let r = c .before .before .before .before .before .before in
     let s = c .before .before .before .before .before in
     c .run-verdict .ensures

@@ -29,7 +29,7 @@ region-verdict-requires : tie.Need-region-verdict-requires Inv-loop μ-loop
 region-verdict-requires c κs = search needs
 
 returns : tie.Need-returns Inv-loop μ-loop
-returns c = 
+returns c =
     let l = c .before .before .before .before in
     let s = l .before .before .args in
     chunks-stop (regionEntries (s .tables) (s .field)) (numbered-region (s .tables) (s .field)) _ (l .loop .inv .3) _ (omega arith) (c .before .before .region-verdict .ensures) (c .if1 .taken)
@@ -41,10 +41,9 @@ loop-less : tie.Need-loop-less Inv-loop μ-loop
 loop-less c = search needs
 
 loop-again : tie.Need-loop-again Inv-loop μ-loop
-loop-again c = 
+loop-again c =
     let l = c .before .before .before .before in
-    let s = l .before .before .args in
-    (
+    let s = l .before .before .args in (
       omega arith,
       l .loop .inv .1,
       l .loop .inv .2,
@@ -55,7 +54,7 @@ accept-requires : tie.Need-accept-requires Inv-loop μ-loop
 accept-requires c κs = search needs
 
 returns-2 : tie.Need-returns-2 Inv-loop μ-loop
-returns-2 c = 
+returns-2 c =
     let l = c .before .before in
     let s = l .before .before .args in
     let e : l .loop .i ≡ regionCount (s .field) = omega arith in

@@ -31,10 +31,20 @@ first-ends-requires c κs = search needs
 
 returns : tie.Need-returns
 unfolding secondRight
-returns c = 
-    let b6 = c .before .before .before .before .before .before in
-    let b8 = b6 .before .before in
-    rw (c .first-ends .ensures, c .before .before .line-length .ensures, c .before .before .before .toggles-right .ensures, b6 .before .is-plain .ensures)
+returns c =
+    let b5 = c .before .before .before .before .before in
+    let s = b5 .before .before .before in
+    let r = s .before in
+    rw (
+      c .first-ends .ensures,
+      c .before .before .line-length .ensures,
+      c .before .before .before .toggles-right .ensures,
+      b5 .is-plain .ensures,
+      b5 .before .pattern-of .ensures,
+      s .sequence-of .ensures,
+      r .region-at .ensures,
+      r .before .region-of .ensures .0,
+    )
 
 pub second-right-spec : {M : Type 1} → statement M
 second-right-spec =

@@ -35,7 +35,7 @@ refuse-requires : tie.Need-refuse-requires Inv-loop μ-loop
 refuse-requires c κs = search needs
 
 returns : tie.Need-returns Inv-loop μ-loop
-returns c = 
+returns c =
     let l = c .before .before .before .before .before in
     let s = l .before .args in
     let e = told-no (c .before .before .shutter-right .ensures) (c .before .if1 .taken) in
@@ -49,7 +49,7 @@ loop-less : tie.Need-loop-less Inv-loop μ-loop
 loop-less c = search needs
 
 loop-again : tie.Need-loop-again Inv-loop μ-loop
-loop-again c = 
+loop-again c =
     let l = c .before .before .before .before in
     let s = l .before .args in
     let e = told-yes (c .before .shutter-right .ensures) (c .if1 .left) in
@@ -59,7 +59,7 @@ accept-requires : tie.Need-accept-requires Inv-loop μ-loop
 accept-requires c κs = search needs
 
 returns-2 : tie.Need-returns-2 Inv-loop μ-loop
-returns-2 c = 
+returns-2 c =
     let l = c .before .before in
     let s = l .before .args in
     let e : l .loop .k ≡ 2 = omega arith in

@@ -27,7 +27,7 @@ region-at-requires-2 c κs = search needs
 
 returns-3 : tie.Need-returns-3
 unfolding startsRight
-returns-3 c = 
+returns-3 c =
     let b = c .before .before .before .before .before .before .before in
     let e = ap (λ (r : Region). r .first) (b .region-at .ensures) in
     let d = ap (λ (r : Region). r .first) (c .before .before .region-at2 .ensures) in

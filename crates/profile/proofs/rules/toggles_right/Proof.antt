@@ -1,6 +1,5 @@
 -- The six outputs' tests, one after the other, are the definition's chunks.
 -- Assumes nothing.
-use mathlib.Core.Path.{sym, _∙_}
 use Rattle.profile.specs.Rules.{togglesRight}
 use Rattle.profile.proofs.Judging.{all-six}
 use borrow.Author.Needs.{needs}
@@ -48,7 +47,7 @@ toggle-fault-requires-6 c κs = search needs
 
 returns : tie.Need-returns
 unfolding togglesRight
-returns c = 
+returns c =
     let b1 = c .before .before .before .before .before .before .before .before .before .before in
     let b2 = c .before .before .before .before .before .before .before .before in
     let b3 = c .before .before .before .before .before .before in
