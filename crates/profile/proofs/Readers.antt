@@ -4,11 +4,12 @@ use mathlib.Core.Path.{_≡_, refl, sym, ap, _∙_}
 use mathlib.Core.Bool.{Bool, true, false, cond, not, _&&_, _||_}
 use mathlib.Core.List.{List, [], _∷_, _++_, append-assoc}
 use Prim.Native.Nat.{ℕ, suc, _+_, _-_, _*_, _/_, _%_, _≤_, _<_}
+use native.Mathlib.Nat.{add-zero}
 use native.Mathlib.Omega.{arith}
-use borrow.Author.Tests.{not-true, not-false, leb-true, le-leb}
-use lib.Dec.{leb, eqb}
-use lib.ListN.{length, getD, set, replicate}
-use lib.Seq.{set-at}
+use borrow.Author.Tests.{not-true, not-false, leb-true, eqb-true, lt-ltb, le-ltb}
+use lib.Dec.{ltb, leb, eqb}
+use lib.ListN.{length, getD, take, drop, set, replicate, length-drop}
+use lib.Seq.{set-at, getD-drop}
 use Rattle.profile.specs.Lists.{all, chunks}
 use Rattle.profile.specs.Values.{modeOf, emptyRegion}
 use Rattle.profile.specs.Bytes.{numberAt, dataAt}
@@ -33,12 +34,16 @@ use Rattle.profile.specs.Script.{
   shutterFrom,
   shutterFits,
   withShutter,
+  known,
+  allowed,
 }
-use Rattle.profile.specs.Reading.{bodyAnswer, regionAnswer, regionsAnswer}
+use Rattle.profile.specs.Reading.{bodyAnswer, headFrom, regionAnswer, regionsAnswer, unfound, foundFront, foundAt}
+use Rattle.profile.specs.declared.Field.{Field}
 use Rattle.profile.specs.declared.Mode.{Mode}
 use Rattle.profile.specs.declared.Region.{Region}
 use Rattle.profile.specs.declared.records.RegionAnswer.{RegionAnswer}
 use Rattle.profile.specs.declared.records.RegionsAnswer.{RegionsAnswer}
+use Rattle.profile.specs.declared.records.Found.{Found}
 use Rattle.profile.specs.declared.Sequence.{Sequence}
 use Rattle.profile.specs.declared.Gate.{Gate}
 use Rattle.profile.specs.declared.Subck.{Subck}
@@ -46,7 +51,8 @@ use Rattle.profile.specs.declared.Shutter.{Shutter}
 use Rattle.profile.specs.declared.Tables.{Tables}
 use Rattle.profile.specs.declared.Profile.{Profile}
 use Rattle.profile.specs.declared.records.BodyAnswer.{BodyAnswer}
-use Rattle.profile.proofs.Laws.{and-left, all-one, all-append, chunks-more, length-ones}
+use Rattle.profile.proofs.Laws.{and-left, and-right, all-one, all-append, chunks-more, length-ones}
+use Rattle.profile.proofs.Items.{field-count}
 
 -- ---- tests
 
@@ -127,3 +133,87 @@ module _ (b : List ℕ) (i : ℕ) (fits : Bool) (regions : List Region) (ef : fi
 
   pub regions-end : (n : ℕ) → i ≡ n → record { fits = fits; regions = regions } ≡ regionsAnswer b n
   regions-end n e = rw (ef, er, e)
+
+-- ---- a field
+
+module _ (b : List ℕ) (head : Field) (r : Bool) (eh : head ≡ headFrom b) (er : r ≡ all (fieldRange head)) where
+  abbrev head-right : Bool
+  head-right = eqb (10 + 6 * head .count) (length b) && r
+
+  head-test : head-right ≡ all (eqb (10 + 6 * numberAt b 8) (length b) ∷ fieldRange (fieldFrom b))
+  unfolding fieldFrom
+  head-test = rw (er, eh) (all-front _ _)
+
+  pub head-no : not head-right ≡ true → fieldFits b ≡ false
+  unfolding fieldFits
+  head-no e = rw (sym head-test ∙ not-true _ e)
+
+  pub head-count : not head-right ≡ false → (10 + 6 * head .count ≤ length b) × (head .count ≤ 7)
+  head-count e =
+      let t = not-false _ e in
+      let s = eqb-true (10 + 6 * head .count) (length b) (and-left _ r t) in
+      let n = field-count head (sym er ∙ and-right (eqb (10 + 6 * head .count) (length b)) r t) in
+      (omega arith, n .1)
+
+  module _ (e : not head-right ≡ false) (g : RegionsAnswer) (eg : g ≡ regionsAnswer b (head .count)) where
+    pub field-fits : g .fits ≡ fieldFits b
+    unfolding fieldFits
+    field-fits = rw (sym head-test ∙ not-false _ e, eg, eh)
+
+    pub field-made : record {
+      present = head .present;
+      lines = head .lines;
+      last = head .last;
+      gate = head .gate;
+      second = head .second;
+      count = head .count;
+      regions = g .regions;
+    }
+        ≡ fieldFrom b
+    unfolding fieldFrom
+    field-made = rw (eg, eh)
+
+-- ---- the record at an offset
+
+-- a number of the rest of a script from an offset on
+number-rest : (s : List ℕ) (at k : ℕ) → numberAt (drop at s) k ≡ numberAt s (at + k)
+number-rest s at k =
+    let e : at + (k + 1) ≡ at + k + 1 = omega arith in
+    rw (getD-drop at s k 0, getD-drop at s (k + 1) 0, e)
+
+-- each answer, in the order of the tests
+module _ (s : List ℕ) (at : ℕ) where
+  pub head-cut : length s < at + 4 → unfound 2 ≡ foundAt s at
+  unfolding foundFront
+  head-cut h = rw (lt-ltb (length (drop at s)) 4 (omega (arith, length-drop at s)))
+
+  module _ (whole : at + 4 ≤ length s) (size kind : ℕ) (ez : size ≡ numberAt s at) (ek : kind ≡ numberAt s (at + 2)) where
+    header : ltb (length (drop at s)) 4 ≡ false
+    header = le-ltb (length (drop at s)) 4 (omega (arith, length-drop at s))
+
+    size-rest : numberAt (drop at s) 0 ≡ size
+    size-rest = number-rest s at 0 ∙ rw add-zero (sym ez)
+
+    kind-rest : numberAt (drop at s) 2 ≡ kind
+    kind-rest = number-rest s at 2 ∙ sym ek
+
+    pub kind-unknown : known kind ≡ false → unfound 3 ≡ foundAt s at
+    unfolding foundFront
+    kind-unknown e = rw (header, kind-rest, e)
+
+    module _ (e : known kind ≡ true) where
+      pub length-wrong : allowed kind size ≡ false → unfound 4 ≡ foundAt s at
+      unfolding foundFront
+      length-wrong f = rw (header, kind-rest, size-rest, e, f)
+
+      module _ (f : allowed kind size ≡ true) where
+        pub body-cut : length s < at + (4 + size) → unfound 2 ≡ foundAt s at
+        unfolding foundFront
+        body-cut h =
+            rw (header, kind-rest, size-rest, e, f, lt-ltb (length (drop at s)) (4 + size) (omega (arith, length-drop at s)))
+
+        pub body-found : at + (4 + size) ≤ length s
+            → record { number = 0; kind = kind; start = at + 4; end = at + (4 + size) } ≡ foundAt s at
+        unfolding foundFront
+        body-found h =
+            rw (header, kind-rest, size-rest, e, f, le-ltb (length (drop at s)) (4 + size) (omega (arith, length-drop at s)))
