@@ -1,56 +1,26 @@
 -- Laws of the readers in code: tests joined by `&`, the readers of each kind, the regions of a field, and one step at an offset.
 -- Assumes nothing.
-use mathlib.Core.Path.{_≡_, refl, sym, ap, _∙_}
-use mathlib.Core.Bool.{Bool, true, false, cond, not, _&&_, _||_}
+use mathlib.Core.Path.{_≡_, refl, sym, _∙_}
+use mathlib.Core.Bool.{Bool, true, false, not, _&&_, _||_}
 use mathlib.Core.List.{List, [], _∷_, _++_, append-assoc}
 use Prim.Native.Nat.{ℕ, suc, _+_, _-_, _*_, _/_, _%_, _≤_, _<_}
-use native.Mathlib.Nat.{add-zero}
 use native.Mathlib.Omega.{arith}
-use borrow.Author.Tests.{not-true, not-false, leb-true, eqb-true, lt-ltb, le-ltb}
-use lib.Dec.{ltb, leb, eqb}
-use lib.ListN.{length, getD, take, drop, set, replicate, length-drop}
-use lib.Seq.{set-at, getD-drop}
+use borrow.Author.Tests.{not-true, not-false, leb-true, eqb-true}
+use lib.Dec.{leb, eqb}
+use lib.ListN.{length, getD, set, replicate}
+use lib.Seq.{set-at}
 use Rattle.profile.specs.Lists.{all, chunks}
 use Rattle.profile.specs.Values.{modeOf, emptyRegion}
 use Rattle.profile.specs.Bytes.{numberAt, dataAt}
-use Rattle.profile.specs.Ranges.{sequenceRange, fieldRange, regionRange, gateRange, subckRange, shutterRange}
-use Rattle.profile.specs.Script.{
-  registerFits,
-  withRegister,
-  sequenceFrom,
-  sequenceFits,
-  withSequence,
-  regionFrom,
-  regionsFrom,
-  fieldFrom,
-  regionFits,
-  fieldFits,
-  gateFrom,
-  gateFits,
-  withGate,
-  subckFrom,
-  subckFits,
-  withSubck,
-  shutterFrom,
-  shutterFits,
-  withShutter,
-  known,
-  allowed,
-}
-use Rattle.profile.specs.Reading.{bodyAnswer, headFrom, regionAnswer, regionsAnswer, unfound, foundFront, foundAt}
+use Rattle.profile.specs.Ranges.{fieldRange, regionRange}
+use Rattle.profile.specs.Script.{registerFits, regionFrom, regionsFrom, fieldFrom, regionFits, fieldFits, fieldLength}
+use Rattle.profile.specs.Reading.{bodyAnswer, headFrom, regionAnswer, regionsAnswer}
 use Rattle.profile.specs.declared.Field.{Field}
 use Rattle.profile.specs.declared.Mode.{Mode}
 use Rattle.profile.specs.declared.Region.{Region}
 use Rattle.profile.specs.declared.records.RegionAnswer.{RegionAnswer}
 use Rattle.profile.specs.declared.records.RegionsAnswer.{RegionsAnswer}
-use Rattle.profile.specs.declared.records.Found.{Found}
-use Rattle.profile.specs.declared.Sequence.{Sequence}
-use Rattle.profile.specs.declared.Gate.{Gate}
-use Rattle.profile.specs.declared.Subck.{Subck}
-use Rattle.profile.specs.declared.Shutter.{Shutter}
-use Rattle.profile.specs.declared.Tables.{Tables}
 use Rattle.profile.specs.declared.Profile.{Profile}
-use Rattle.profile.specs.declared.records.BodyAnswer.{BodyAnswer}
 use Rattle.profile.proofs.Laws.{and-left, and-right, all-one, all-append, chunks-more, length-ones}
 use Rattle.profile.proofs.Items.{field-count}
 
@@ -173,47 +143,8 @@ module _ (b : List ℕ) (head : Field) (r : Bool) (eh : head ≡ headFrom b) (er
     unfolding fieldFrom
     field-made = rw (eg, eh)
 
--- ---- the record at an offset
-
--- a number of the rest of a script from an offset on
-number-rest : (s : List ℕ) (at k : ℕ) → numberAt (drop at s) k ≡ numberAt s (at + k)
-number-rest s at k =
-    let e : at + (k + 1) ≡ at + k + 1 = omega arith in
-    rw (getD-drop at s k 0, getD-drop at s (k + 1) 0, e)
-
--- each answer, in the order of the tests
-module _ (s : List ℕ) (at : ℕ) where
-  pub head-cut : length s < at + 4 → unfound 2 ≡ foundAt s at
-  unfolding foundFront
-  head-cut h = rw (lt-ltb (length (drop at s)) 4 (omega (arith, length-drop at s)))
-
-  module _ (whole : at + 4 ≤ length s) (size kind : ℕ) (ez : size ≡ numberAt s at) (ek : kind ≡ numberAt s (at + 2)) where
-    header : ltb (length (drop at s)) 4 ≡ false
-    header = le-ltb (length (drop at s)) 4 (omega (arith, length-drop at s))
-
-    size-rest : numberAt (drop at s) 0 ≡ size
-    size-rest = number-rest s at 0 ∙ rw add-zero (sym ez)
-
-    kind-rest : numberAt (drop at s) 2 ≡ kind
-    kind-rest = number-rest s at 2 ∙ sym ek
-
-    pub kind-unknown : known kind ≡ false → unfound 3 ≡ foundAt s at
-    unfolding foundFront
-    kind-unknown e = rw (header, kind-rest, e)
-
-    module _ (e : known kind ≡ true) where
-      pub length-wrong : allowed kind size ≡ false → unfound 4 ≡ foundAt s at
-      unfolding foundFront
-      length-wrong f = rw (header, kind-rest, size-rest, e, f)
-
-      module _ (f : allowed kind size ≡ true) where
-        pub body-cut : length s < at + (4 + size) → unfound 2 ≡ foundAt s at
-        unfolding foundFront
-        body-cut h =
-            rw (header, kind-rest, size-rest, e, f, lt-ltb (length (drop at s)) (4 + size) (omega (arith, length-drop at s)))
-
-        pub body-found : at + (4 + size) ≤ length s
-            → record { number = 0; kind = kind; start = at + 4; end = at + (4 + size) } ≡ foundAt s at
-        unfolding foundFront
-        body-found h =
-            rw (header, kind-rest, size-rest, e, f, le-ltb (length (drop at s)) (4 + size) (omega (arith, length-drop at s)))
+-- a field's body holds the numbers before the regions
+pub field-long : (len : ℕ) → fieldLength len ≡ true → 9 < len
+field-long len e =
+    let h = leb-true 16 len (and-left (leb 16 len) _ (and-left (leb 16 len && leb len 52) _ e)) in
+    omega arith
