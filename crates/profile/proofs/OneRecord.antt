@@ -1,21 +1,20 @@
 -- The record at an offset: which answer its tests give, what is known of one that is found whole, and what a step over it leaves.
 -- Assumes nothing.
-use mathlib.Core.Path.{_≡_, refl, sym, ap, _∙_}
-use mathlib.Core.Bool.{Bool, true, false, cond, not}
-use mathlib.Core.List.{List, [], _∷_}
-use Prim.Native.Nat.{ℕ, _+_, _-_, _≤_, _<_}
+use mathlib.Core.Path.{_≡_, refl, sym, _∙_}
+use mathlib.Core.Bool.{true, false, cond}
+use mathlib.Core.List.{List, []}
+use Prim.Native.Nat.{ℕ, suc, _+_, _-_, _≤_, _<_}
 use native.Mathlib.Nat.{add-zero}
 use native.Mathlib.Omega.{arith}
-use borrow.Author.Tests.{ltb-false, lt-ltb, le-ltb}
-use lib.Dec.{ltb}
-use lib.ListN.{length, getD, take, drop, length-take, length-drop}
+use borrow.Author.Tests.{ltb-false, lt-ltb, le-ltb, eqb-true, eqb-false, ne-eqb}
+use lib.Dec.{ltb, eqb}
+use lib.ListN.{length, getD, take, drop, length-take, length-drop, drop-of-length-le}
 use lib.Seq.{getD-drop, drop-drop, drop-cons}
 use Rattle.profile.specs.Bytes.{numberAt}
-use Rattle.profile.specs.Values.{emptyProfile, refused, accepted, readAnswer}
+use Rattle.profile.specs.Values.{emptyProfile, refused, accepted}
 use Rattle.profile.specs.Script.{known, allowed, fits, put, bodyOf, Step, stop, next, step, records}
 use Rattle.profile.specs.Reading.{bodyAnswer, unfound, foundFront, foundAt, stepAnswer}
 use Rattle.profile.specs.declared.Profile.{Profile}
-use Rattle.profile.specs.declared.ReadAnswer.{ReadAnswer}
 use Rattle.profile.specs.declared.records.BodyAnswer.{BodyAnswer}
 use Rattle.profile.specs.declared.records.Found.{Found}
 use Rattle.profile.specs.declared.records.RecordAnswer.{RecordAnswer}
@@ -96,17 +95,18 @@ known-found at r =
     by-cases (ltb (length r) (4 + numberAt r 0))
     (λ d. rw (a, b, c, d) (λ z. absurd (omega arith), λ n p. refl))
     (λ d.
-    rw (a, b, c, d)
-    (λ z.
-    record {
-      kind = refl;
-      start = refl;
-      end = refl;
-      right = c;
-      long = ltb-false (length r) (4 + numberAt r 0) d;
-      values = λ p. rw (a, b, c, d);
-    },
-    λ n p. absurd (n refl))))
+    rw (a, b, c, d) (
+      λ z.
+          record {
+            kind = refl;
+            start = refl;
+            end = refl;
+            right = c;
+            long = ltb-false (length r) (4 + numberAt r 0) d;
+            values = λ p. rw (a, b, c, d);
+          },
+      λ n p. absurd (n refl),
+    )))
     (λ c. rw (a, b, c) (λ z. absurd (omega arith), λ n p. refl)))
     (λ b. rw (a, b) (λ z. absurd (omega arith), λ n p. refl)))
 
@@ -164,3 +164,70 @@ module _ (s : List ℕ) (at : ℕ) (f : Found) (e : f ≡ foundAt s at) where
         step-next-on y =
             let n : fits (numberAt rest 2) (bodyOf rest) ≡ true = rw body at y in
             rw (whole-of z .values p, body, n, whole-of z .end)
+
+-- ---- all records, one after the other
+
+-- no step is refused with the number 0
+stop-number : (r : List ℕ) (p : Profile) (n : ℕ) → step r p ≡ stop n → n ≡ 0 → ⊥
+stop-number r p n e z =
+    let f = foundFront 0 r in
+    let k = known-found 0 r in
+    by-cases (eqb (f .number) 0)
+    (λ a.
+    let v = k .0 (eqb-true (f .number) 0 a) .values p in
+    by-cases (fits (numberAt r 2) (bodyOf r))
+    (λ b. let w = rw b at v in next-stop (numberAt r 0) n (put (numberAt r 2) (bodyOf r) p) (sym w ∙ e))
+    (λ b. let w = rw b at v in stop-zero 5 n (sym w ∙ e) z (omega arith)))
+    (λ a. let m = eqb-false (f .number) 0 a in stop-zero (f .number) n (sym (k .1 m p) ∙ e) z m)
+  where
+    next-stop : (len n : ℕ) (q : Profile) → next len q ≡ stop n → ⊥
+    next-stop len n q e = let z : _≡_ {A = ℕ} 0 1 = cc in omega arith
+
+    stop-zero : (m n : ℕ) → stop m ≡ stop n → n ≡ 0 → (m ≡ 0 → ⊥) → ⊥
+    stop-zero m n e z h = h (cc)
+
+module _ (s : List ℕ) (at : ℕ) (p : Profile) (t : RecordAnswer) (e : t ≡ stepAnswer at p (step (drop at s) p)) where
+  -- a step that was taken
+  record Moved : Type 0 where
+    pub len : ℕ
+    pub place : t .next ≡ at + (4 + len)
+    pub took : step (drop at s) p ≡ next len (t .profile)
+
+  moved : t .number ≡ 0 → Moved
+  moved z = go (step (drop at s) p) refl e
+    where
+      go : (x : Step) → step (drop at s) p ≡ x → t ≡ stepAnswer at p x → Moved
+      go (stop n) q e = absurd (stop-number (drop at s) p n q (rw e at z))
+      go (next len r) q e = record { len = len; place = rw e; took = rw e q }
+
+  stopped : (t .number ≡ 0 → ⊥) → step (drop at s) p ≡ stop (t .number)
+  stopped n = go (step (drop at s) p) refl e
+    where
+      go : (x : Step) → step (drop at s) p ≡ x → t ≡ stepAnswer at p x → step (drop at s) p ≡ stop (t .number)
+      go (stop m) q e = rw e q
+      go (next len r) q e = absurd (n (rw e))
+
+  pub further : t .number ≡ 0 → at < t .next
+  further z = let m = moved z in omega arith
+
+  pub read-on : t .number ≡ 0 → records 0 (t .next) (drop (t .next) s) (t .profile) ≡ records 0 at (drop at s) p
+  read-on z =
+      let m = moved z in
+      let n = records-next (drop at s) at (m .len) p (t .profile) (step-next (drop at s) p (m .len) (t .profile) (m .took)) (m .took) in
+      rw (m .place, ← drop-drop (4 + m .len) at s) (sym n)
+
+  pub read-stop : at < length s → (t .number ≡ 0 → ⊥)
+      → record { verdict = refused (t .number) at; profile = emptyProfile } ≡ records 0 at (drop at s) p
+  read-stop h n =
+      let c = drop-cons s at 0 h in
+      let k = records-stop (getD s at 0) (drop (suc at) s) at (t .number) p (rw c at (stopped n)) in
+      rw (c, k, ne-eqb (t .number) 0 n)
+
+pub read-start : (s : List ℕ) (p : Profile) → p ≡ emptyProfile → records 0 0 (drop 0 s) p ≡ records 0 0 s emptyProfile
+read-start s p e = rw e
+
+pub read-end : (s : List ℕ) (at : ℕ) (p : Profile) → length s ≤ at
+    → record { verdict = accepted; profile = p } ≡ records 0 at (drop at s) p
+read-end s at p h =
+    let n : drop at s ≡ [] = drop-of-length-le s h in
+    rw (n, records-done 0 at p)

@@ -1,4 +1,4 @@
--- Laws of the readers in code: tests joined by `&`, the readers of each kind, the regions of a field, and one step at an offset.
+-- Laws of the readers in code: tests joined by `&`, a body's answer, items with a number, a register, a field and its regions.
 -- Assumes nothing.
 use mathlib.Core.Path.{_≡_, refl, sym, _∙_}
 use mathlib.Core.Bool.{Bool, true, false, not, _&&_, _||_}

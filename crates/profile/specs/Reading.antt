@@ -1,7 +1,7 @@
 -- The answers of the reader in code, by the definitions of reading: a body's values, regions, the record at an offset, and one step.
 -- Assumes nothing.
 use Prim.Native.Nat.{ℕ, _+_, _-_}
-use mathlib.Core.List.{List, [], _∷_, _++_}
+use mathlib.Core.List.{List, _++_}
 use mathlib.Core.Bool.{Bool, true, cond, not}
 use lib.ListN.{length, drop, replicate}
 use lib.Dec.{ltb}

@@ -39,7 +39,10 @@ refuse-record-requires-3 : tie.Need-refuse-record-requires-3
 refuse-record-requires-3 c κs = search needs
 
 returns-3 : tie.Need-returns-3
-returns-3 c = c .refuse-record3 .ensures ∙ kind-unknown _ _ (omega arith) _ _ (c .before .before .before .before .number-at .ensures) (c .before .before .before .number-at2 .ensures) (told-no (c .before .before .is-known .ensures) (c .before .if3 .taken))
+returns-3 c =
+    let d = c .before .before in
+    c .refuse-record3 .ensures ∙ kind-unknown _ _ (omega arith) _ _ (d .before .before .number-at .ensures)
+    (d .before .number-at2 .ensures) (told-no (d .is-known .ensures) (c .before .if3 .taken))
 
 is-allowed-requires : tie.Need-is-allowed-requires
 is-allowed-requires c κs = search needs
@@ -48,7 +51,11 @@ refuse-record-requires-4 : tie.Need-refuse-record-requires-4
 refuse-record-requires-4 c κs = search needs
 
 returns-4 : tie.Need-returns-4
-returns-4 c = c .refuse-record4 .ensures ∙ length-wrong _ _ (omega arith) _ _ (c .before .before .before .before .before .before .number-at .ensures) (c .before .before .before .before .before .number-at2 .ensures) (told-yes (c .before .before .before .before .is-known .ensures) (c .before .before .before .if3 .left)) (told-no (c .before .before .is-allowed .ensures) (c .before .if4 .taken))
+returns-4 c =
+    let d = c .before .before .before .before in
+    c .refuse-record4 .ensures ∙ length-wrong _ _ (omega arith) _ _ (d .before .before .number-at .ensures)
+    (d .before .number-at2 .ensures) (told-yes (d .is-known .ensures) (c .before .before .before .if3 .left))
+    (told-no (c .before .before .is-allowed .ensures) (c .before .if4 .taken))
 
 sub-if5 : tie.Need-sub-if5
 sub-if5 c = search needs
@@ -57,7 +64,11 @@ refuse-record-requires-5 : tie.Need-refuse-record-requires-5
 refuse-record-requires-5 c κs = search needs
 
 returns-5 : tie.Need-returns-5
-returns-5 c = c .refuse-record5 .ensures ∙ body-cut _ _ (omega arith) _ _ (c .before .before .before .before .before .before .before .number-at .ensures) (c .before .before .before .before .before .before .number-at2 .ensures) (told-yes (c .before .before .before .before .before .is-known .ensures) (c .before .before .before .before .if3 .left)) (told-yes (c .before .before .before .is-allowed .ensures) (c .before .before .if4 .left)) (omega arith)
+returns-5 c =
+    let d = c .before .before .before .before .before in
+    c .refuse-record5 .ensures ∙ body-cut _ _ (omega arith) _ _ (d .before .before .number-at .ensures)
+    (d .before .number-at2 .ensures) (told-yes (d .is-known .ensures) (c .before .before .before .before .if3 .left))
+    (told-yes (c .before .before .before .is-allowed .ensures) (c .before .before .if4 .left)) (omega arith)
 
 add-t7 : tie.Need-add-t7
 add-t7 c = search needs
@@ -69,7 +80,11 @@ add-t11 : tie.Need-add-t11
 add-t11 c = search needs
 
 returns-6 : tie.Need-returns-6
-returns-6 c = body-found _ _ (omega arith) _ _ (c .before .before .before .before .before .before .number-at .ensures) (c .before .before .before .before .before .number-at2 .ensures) (told-yes (c .before .before .before .before .is-known .ensures) (c .before .before .before .if3 .left)) (told-yes (c .before .before .is-allowed .ensures) (c .before .if4 .left)) (omega arith)
+returns-6 c =
+    let d = c .before .before .before .before in
+    body-found _ _ (omega arith) _ _ (d .before .before .number-at .ensures) (d .before .number-at2 .ensures)
+    (told-yes (d .is-known .ensures) (c .before .before .before .if3 .left))
+    (told-yes (c .before .before .is-allowed .ensures) (c .before .if4 .left)) (omega arith)
 
 pub found-at-spec : {M : Type 1} → statement M
 found-at-spec =

@@ -19,7 +19,14 @@ make-shutter-requires c κs = search needs
 
 returns : tie.Need-returns
 unfolding emptyTables
-returns c = simp (c .make-shutter .ensures, c .before .make-subck .ensures, c .before .before .make-gate .ensures, c .before .before .before .make-sequence .ensures)
+returns c =
+    simp (
+      c .make-shutter .ensures,
+      c .before .make-subck .ensures,
+      c .before .before .make-gate .ensures,
+      c .before .before .before
+          .make-sequence .ensures,
+    )
 
 pub make-tables-spec : {M : Type 1} → statement M
 make-tables-spec =

@@ -28,7 +28,11 @@ read-subck-requires c κs = eqb-true _ _ (rw (c .match .keys5) at (c .before .be
 
 read-shutter-requires : tie.Need-read-shutter-requires
 unfolding allowed
-read-shutter-requires c κs = eqb-true _ _ (simp (ne-eqb _ _ (c .match .rest .0 .0 .0 .0 .1), ne-eqb _ _ (c .match .rest .0 .0 .0 .1), ne-eqb _ _ (c .match .rest .0 .0 .1), ne-eqb _ _ (c .match .rest .0 .1), ne-eqb _ _ (c .match .rest .1)) at (c .before .before .pre))
+read-shutter-requires c κs =
+    let m = c .match .rest in
+    eqb-true _ _ (simp
+    (ne-eqb _ _ (m .0 .0 .0 .0 .1), ne-eqb _ _ (m .0 .0 .0 .1), ne-eqb _ _ (m .0 .0 .1), ne-eqb _ _ (m .0 .1), ne-eqb _ _ (m .1)) at
+    (c .before .before .pre))
 
 returns : tie.Need-returns
 unfolding fits put
@@ -52,7 +56,10 @@ returns-5 c = rw (c .before .match .keys5) (c .read-subck .ensures)
 
 returns-6 : tie.Need-returns-6
 unfolding fits put
-returns-6 c = simp (ne-eqb _ _ (c .before .match .rest .0 .0 .0 .0 .1), ne-eqb _ _ (c .before .match .rest .0 .0 .0 .1), ne-eqb _ _ (c .before .match .rest .0 .0 .1), ne-eqb _ _ (c .before .match .rest .0 .1), ne-eqb _ _ (c .before .match .rest .1)) (c .read-shutter .ensures)
+returns-6 c =
+    let m = c .before .match .rest in
+    simp (ne-eqb _ _ (m .0 .0 .0 .0 .1), ne-eqb _ _ (m .0 .0 .0 .1), ne-eqb _ _ (m .0 .0 .1), ne-eqb _ _ (m .0 .1), ne-eqb _ _ (m .1))
+    (c .read-shutter .ensures)
 
 pub read-body-spec : {M : Type 1} → statement M
 read-body-spec =

@@ -19,7 +19,11 @@ gate-in-range-requires c κs = search needs
 
 returns : tie.Need-returns
 unfolding gateFits
-returns c = let d = c .before in body-no _ _ _ (told-no (item-test gateRange 4 _ _ _ _ _ (d .before .before .number-at .ensures) (d .before .gate-from .ensures) (d .gate-in-range .ensures)) (c .if1 .taken))
+returns c =
+    let d = c .before in
+    let t = item-test gateRange 4 _ _ _ _ _ (d .before .before .number-at .ensures) (d .before .gate-from .ensures)
+    (d .gate-in-range .ensures) in
+    body-no _ _ _ (told-no t (c .if1 .taken))
 
 cast-i : tie.Need-cast-i
 cast-i c = search needs
@@ -32,7 +36,11 @@ element-set-from-gate c = omega (arith, passed-limit (c .before .before .before 
 
 returns-2 : tie.Need-returns-2
 unfolding gateFits
-returns-2 c = let d = c .before .before in body-yes _ _ _ _ (told-yes (item-test gateRange 4 _ _ _ _ _ (d .before .before .number-at .ensures) (d .before .gate-from .ensures) (d .gate-in-range .ensures)) (c .before .if1 .left)) (rw (d .before .gate-from .ensures, d .before .before .number-at .ensures))
+returns-2 c =
+    let d = c .before .before in
+    let t = item-test gateRange 4 _ _ _ _ _ (d .before .before .number-at .ensures) (d .before .gate-from .ensures)
+    (d .gate-in-range .ensures) in
+    body-yes _ _ _ _ (told-yes t (c .before .if1 .left)) (rw (d .before .gate-from .ensures, d .before .before .number-at .ensures))
 
 pub read-gate-spec : {M : Type 1} → statement M
 read-gate-spec =

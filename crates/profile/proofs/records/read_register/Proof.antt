@@ -1,6 +1,5 @@
 -- The address and the data are those of the body, so the test is that of the definition; where it holds both halves are stored.
 -- Assumes nothing.
-use Rattle.profile.specs.Script.{registerFits}
 use Rattle.profile.proofs.Readers.{told-no, told-yes, passed-limit, body-no, body-yes, register-test}
 use borrow.Author.Needs.{needs}
 use native.Mathlib.Omega.{arith}
@@ -17,7 +16,10 @@ data-at-requires : tie.Need-data-at-requires
 data-at-requires c κs = search needs
 
 returns : tie.Need-returns
-returns c = let d = c .before in body-no _ _ _ (told-no (register-test _ _ _ (d .before .wide .ensures .0) (d .data-at .ensures .0)) (c .if1 .taken))
+returns c =
+    let d = c .before in
+    let t = register-test _ _ _ (d .before .wide .ensures .0) (d .data-at .ensures .0) in
+    body-no _ _ _ (told-no t (c .if1 .taken))
 
 cast-i : tie.Need-cast-i
 cast-i c = search needs
@@ -47,7 +49,10 @@ element-write-tables-2 : tie.Need-element-write-tables-2
 element-write-tables-2 c = omega (arith, passed-limit (c .before .before .before .wide .result) 119 _ (c .before .if1 .left))
 
 returns-2 : tie.Need-returns-2
-returns-2 c = let d = c .before .before in body-yes _ _ _ _ (told-yes (register-test _ _ _ (d .before .wide .ensures .0) (d .data-at .ensures .0)) (c .before .if1 .left)) (rw (d .before .wide .ensures .0, d .data-at .ensures .0))
+returns-2 c =
+    let d = c .before .before in
+    let t = register-test _ _ _ (d .before .wide .ensures .0) (d .data-at .ensures .0) in
+    body-yes _ _ _ _ (told-yes t (c .before .if1 .left)) (rw (d .before .wide .ensures .0, d .data-at .ensures .0))
 
 pub read-register-spec : {M : Type 1} → statement M
 read-register-spec =

@@ -19,7 +19,11 @@ sequence-in-range-requires c κs = search needs
 
 returns : tie.Need-returns
 unfolding sequenceFits
-returns c = let d = c .before in body-no _ _ _ (told-no (item-test sequenceRange 9 _ _ _ _ _ (d .before .before .number-at .ensures) (d .before .sequence-from .ensures) (d .sequence-in-range .ensures)) (c .if1 .taken))
+returns c =
+    let d = c .before in
+    let t = item-test sequenceRange 9 _ _ _ _ _ (d .before .before .number-at .ensures) (d .before .sequence-from .ensures)
+    (d .sequence-in-range .ensures) in
+    body-no _ _ _ (told-no t (c .if1 .taken))
 
 cast-i : tie.Need-cast-i
 cast-i c = search needs
@@ -28,11 +32,17 @@ mul-sequence : tie.Need-mul-sequence
 mul-sequence c = search needs
 
 element-set-from-sequence : tie.Need-element-set-from-sequence
-element-set-from-sequence c = omega (arith, passed-limit (c .before .before .before .before .number-at .result) 9 _ (c .before .if1 .left))
+element-set-from-sequence c =
+    omega (arith, passed-limit (c .before .before .before .before .number-at .result) 9 _ (c .before .if1 .left))
 
 returns-2 : tie.Need-returns-2
 unfolding sequenceFits
-returns-2 c = let d = c .before .before in body-yes _ _ _ _ (told-yes (item-test sequenceRange 9 _ _ _ _ _ (d .before .before .number-at .ensures) (d .before .sequence-from .ensures) (d .sequence-in-range .ensures)) (c .before .if1 .left)) (rw (d .before .sequence-from .ensures, d .before .before .number-at .ensures))
+returns-2 c =
+    let d = c .before .before in
+    let t = item-test sequenceRange 9 _ _ _ _ _ (d .before .before .number-at .ensures) (d .before .sequence-from .ensures)
+    (d .sequence-in-range .ensures) in
+    body-yes _ _ _ _ (told-yes t (c .before .if1 .left))
+    (rw (d .before .sequence-from .ensures, d .before .before .number-at .ensures))
 
 pub read-sequence-spec : {M : Type 1} → statement M
 read-sequence-spec =

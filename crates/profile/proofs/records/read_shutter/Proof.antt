@@ -19,7 +19,11 @@ shutter-in-range-requires c κs = search needs
 
 returns : tie.Need-returns
 unfolding shutterFits
-returns c = let d = c .before in body-no _ _ _ (told-no (item-test shutterRange 1 _ _ _ _ _ (d .before .before .number-at .ensures) (d .before .shutter-from .ensures) (d .shutter-in-range .ensures)) (c .if1 .taken))
+returns c =
+    let d = c .before in
+    let t = item-test shutterRange 1 _ _ _ _ _ (d .before .before .number-at .ensures) (d .before .shutter-from .ensures)
+    (d .shutter-in-range .ensures) in
+    body-no _ _ _ (told-no t (c .if1 .taken))
 
 cast-i : tie.Need-cast-i
 cast-i c = search needs
@@ -28,11 +32,16 @@ mul-shutter : tie.Need-mul-shutter
 mul-shutter c = search needs
 
 element-set-from-shutter : tie.Need-element-set-from-shutter
-element-set-from-shutter c = omega (arith, passed-limit (c .before .before .before .before .number-at .result) 1 _ (c .before .if1 .left))
+element-set-from-shutter c =
+    omega (arith, passed-limit (c .before .before .before .before .number-at .result) 1 _ (c .before .if1 .left))
 
 returns-2 : tie.Need-returns-2
 unfolding shutterFits
-returns-2 c = let d = c .before .before in body-yes _ _ _ _ (told-yes (item-test shutterRange 1 _ _ _ _ _ (d .before .before .number-at .ensures) (d .before .shutter-from .ensures) (d .shutter-in-range .ensures)) (c .before .if1 .left)) (rw (d .before .shutter-from .ensures, d .before .before .number-at .ensures))
+returns-2 c =
+    let d = c .before .before in
+    let t = item-test shutterRange 1 _ _ _ _ _ (d .before .before .number-at .ensures) (d .before .shutter-from .ensures)
+    (d .shutter-in-range .ensures) in
+    body-yes _ _ _ _ (told-yes t (c .before .if1 .left)) (rw (d .before .shutter-from .ensures, d .before .before .number-at .ensures))
 
 pub read-shutter-spec : {M : Type 1} → statement M
 read-shutter-spec =

@@ -1,4 +1,4 @@
--- The record is refused as it is found, or by its values; else the part of the script that is its body goes to the reader of its kind, and the step is taken.
+-- The record is refused as it is found, or by the values of its body, which is a part of the script; else the step is taken.
 -- Assumes nothing.
 use borrow.Author.Tests.{not-true, not-false}
 use Rattle.profile.proofs.OneRecord.{part-ordered, part-inside, part-allowed, step-refused, step-unfit, step-next-on}
@@ -25,10 +25,15 @@ read-body-requires : tie.Need-read-body-requires
 read-body-requires c κs = part-allowed _ _ _ (c .before .before .before .found-at .ensures) (c .before .if1 .left)
 
 returns-2 : tie.Need-returns-2
-returns-2 c = step-unfit _ _ _ (c .before .before .before .before .before .before .found-at .ensures) _ (c .before .before .before .before .if1 .left) _ (c .before .before .read-body .ensures) (not-true _ (c .if2 .taken))
+returns-2 c =
+    step-unfit _ _ _ (c .before .before .before .before .before .before .found-at .ensures) _
+    (c .before .before .before .before .if1 .left) _ (c .before .before .read-body .ensures) (not-true _ (c .if2 .taken))
 
 returns-3 : tie.Need-returns-3
-returns-3 c = step-next-on _ _ _ (c .before .before .before .before .before .before .before .found-at .ensures) _ (c .before .before .before .before .before .if1 .left) _ (c .before .before .before .read-body .ensures) (not-false _ (c .before .if2 .left))
+returns-3 c =
+    step-next-on _ _ _ (c .before .before .before .before .before .before .before .found-at .ensures) _
+    (c .before .before .before .before .before .if1 .left) _ (c .before .before .before .read-body .ensures)
+    (not-false _ (c .before .if2 .left))
 
 pub record-at-spec : {M : Type 1} → statement M
 record-at-spec =

@@ -39,7 +39,11 @@ region-in-range-requires : tie.Need-region-in-range-requires
 region-in-range-requires c κs = search needs
 
 returns : tie.Need-returns
-returns c = let d = c .before .before in let a = d .before .before .before .before .args in region-made (a .body .now) (a .i) _ _ _ _ _ (d .before .before .number-at .ensures) (d .before .number-at2 .ensures) (d .number-at3 .ensures) (c .before .mode-of .ensures) (c .region-in-range .ensures)
+returns c =
+    let d = c .before .before in
+    let a = d .before .before .before .before .args in
+    region-made (a .body .now) (a .i) _ _ _ _ _ (d .before .before .number-at .ensures) (d .before .number-at2 .ensures)
+    (d .number-at3 .ensures) (c .before .mode-of .ensures) (c .region-in-range .ensures)
 
 pub region-from-spec : {M : Type 1} → statement M
 region-from-spec =

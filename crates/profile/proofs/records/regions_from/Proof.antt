@@ -15,7 +15,9 @@ use Rattle.profile.proofs.records.regions_from.Statement.{statement}
 use Rattle.profile.proofs.records.regions_from.Tie as tie
 
 abbrev Inv-loop : tie.InvT-loop
-Inv-loop body count regions₀ fits₀ i₀ regions fits i = (i ≤ count) × (length regions ≡ 7) × (fits ≡ all (chunks i (regionFits body))) × (regions ≡ regionsFrom body i ++ replicate (7 - i) emptyRegion)
+Inv-loop body count regions₀ fits₀ i₀ regions fits i =
+    (i ≤ count) × (length regions ≡ 7) × (fits ≡ all (chunks i (regionFits body))) ×
+    (regions ≡ regionsFrom body i ++ replicate (7 - i) emptyRegion)
 
 abbrev μ-loop : tie.MeasureT-loop
 μ-loop body count regions₀ fits₀ i₀ regions fits i = count - i
@@ -43,10 +45,17 @@ loop-less : tie.Need-loop-less Inv-loop μ-loop
 loop-less c = omega arith
 
 loop-again : tie.Need-loop-again Inv-loop μ-loop
-loop-again c = let v = c .before .before .before .before .loop .inv in let g = c .before .before .region-from .ensures in let b = c .before .before .before .before .before .before .before .args .body .now in (omega arith, simp length-set (v .1), fits-more b _ _ _ (v .2) (v .3) _ g, regions-more b _ _ _ (v .2) (v .3) _ g (omega arith))
+loop-again c =
+    let v = c .before .before .before .before .loop .inv in
+    let g = c .before .before .region-from .ensures in
+    let b = c .before .before .before .before .before .before .before .args .body .now in
+    (omega arith, simp length-set (v .1), fits-more b _ _ _ (v .2) (v .3) _ g, regions-more b _ _ _ (v .2) (v .3) _ g (omega arith))
 
 returns : tie.Need-returns Inv-loop μ-loop
-returns c = let v = c .before .loop .inv in let b = c .before .before .before .before .args .body .now in regions-end b _ _ _ (v .2) (v .3) _ (omega arith)
+returns c =
+    let v = c .before .loop .inv in
+    let b = c .before .before .before .before .args .body .now in
+    regions-end b _ _ _ (v .2) (v .3) _ (omega arith)
 
 pub regions-from-spec : {M : Type 1} → statement M
 regions-from-spec =
