@@ -2,16 +2,16 @@
 -- Assumes nothing.
 use mathlib.Core.Path.{_≡_, refl, sym, _∙_}
 use mathlib.Core.Bool.{true, false, cond}
-use mathlib.Core.List.{List, []}
+use mathlib.Core.List.{List}
 use Prim.Native.Nat.{ℕ, suc, _+_, _-_, _≤_, _<_}
 use native.Mathlib.Nat.{add-zero}
 use native.Mathlib.Omega.{arith}
-use borrow.Author.Tests.{ltb-false, lt-ltb, le-ltb, eqb-true, eqb-false, ne-eqb}
+use borrow.Author.Tests.{ltb-false, lt-ltb, le-ltb, eqb-true, eqb-false}
 use lib.Dec.{ltb, eqb}
 use lib.ListN.{length, getD, take, drop, length-take, length-drop, drop-of-length-le}
 use lib.Seq.{getD-drop, drop-drop, drop-cons}
 use Rattle.profile.specs.Bytes.{numberAt}
-use Rattle.profile.specs.Values.{emptyProfile, refused, accepted}
+use Rattle.profile.specs.Values.{emptyProfile, refused, accepted, readAnswer}
 use Rattle.profile.specs.Script.{known, allowed, fits, put, bodyOf, Step, stop, next, step, records}
 use Rattle.profile.specs.Reading.{bodyAnswer, unfound, foundFront, foundAt, stepAnswer}
 use Rattle.profile.specs.declared.Profile.{Profile}
@@ -216,18 +216,14 @@ module _ (s : List ℕ) (at : ℕ) (p : Profile) (t : RecordAnswer) (e : t ≡ s
       let n = records-next (drop at s) at (m .len) p (t .profile) (step-next (drop at s) p (m .len) (t .profile) (m .took)) (m .took) in
       rw (m .place, ← drop-drop (4 + m .len) at s) (sym n)
 
-  pub read-stop : at < length s → (t .number ≡ 0 → ⊥)
-      → record { verdict = refused (t .number) at; profile = emptyProfile } ≡ records 0 at (drop at s) p
+  pub read-stop : at < length s → (t .number ≡ 0 → ⊥) → readAnswer (refused (t .number) at) p ≡ records 0 at (drop at s) p
   read-stop h n =
       let c = drop-cons s at 0 h in
-      let k = records-stop (getD s at 0) (drop (suc at) s) at (t .number) p (rw c at (stopped n)) in
-      rw (c, k, ne-eqb (t .number) 0 n)
+      rw c (sym (records-stop (getD s at 0) (drop (suc at) s) at (t .number) p (rw c at (stopped n))))
 
 pub read-start : (s : List ℕ) (p : Profile) → p ≡ emptyProfile → records 0 0 (drop 0 s) p ≡ records 0 0 s emptyProfile
 read-start s p e = rw e
 
 pub read-end : (s : List ℕ) (at : ℕ) (p : Profile) → length s ≤ at
-    → record { verdict = accepted; profile = p } ≡ records 0 at (drop at s) p
-read-end s at p h =
-    let n : drop at s ≡ [] = drop-of-length-le s h in
-    rw (n, records-done 0 at p)
+    → readAnswer accepted p ≡ records 0 at (drop at s) p
+read-end s at p h = rw (drop-of-length-le s h) (sym (records-done 0 at p))

@@ -31,7 +31,6 @@ ghost use Rattle.profile.specs.Values.{
   emptyField,
   emptyTables,
   emptyProfile,
-  refused,
   readAnswer,
 };
 ghost use Rattle.profile.specs.Script.{
@@ -629,14 +628,17 @@ pub fn record_at(script: &[u8], at: usize, profile: Profile) -> RecordAnswer
 
 // ---- all records
 
-fn refuse_read(number: u16, place: u64) -> ReadAnswer
-    ensures { λ r. ⌜ r ≡ record { verdict = refused number place; profile = emptyProfile } ⌝ }
+// A verdict with its profile: the empty one with a refusal.
+fn make_answer(verdict: Verdict, profile: Profile) -> ReadAnswer
+    ensures { λ r. ⌜ r ≡ readAnswer verdict profile ⌝ }
 {
-    let verdict = Verdict {
-        number: number,
-        place: place,
-    };
-    let profile = empty();
+    if verdict.number != 0 {
+        let none = empty();
+        return ReadAnswer {
+            verdict: verdict,
+            profile: none,
+        };
+    }
     ReadAnswer {
         verdict: verdict,
         profile: profile,
@@ -652,7 +654,11 @@ pub fn read_records(script: &[u8]) -> ReadAnswer
     while at < script.len() {
         let answer = record_at(script, at, profile);
         if answer.number != 0 {
-            return refuse_read(answer.number, at as u64);
+            let refusal = Verdict {
+                number: answer.number,
+                place: at as u64,
+            };
+            return make_answer(refusal, profile);
         }
         profile = answer.profile;
         at = answer.next;
@@ -661,8 +667,5 @@ pub fn read_records(script: &[u8]) -> ReadAnswer
         number: 0,
         place: 0,
     };
-    ReadAnswer {
-        verdict: verdict,
-        profile: profile,
-    }
+    make_answer(verdict, profile)
 }
