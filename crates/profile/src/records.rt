@@ -212,6 +212,7 @@ pub struct BodyAnswer {
     pub profile: Profile,
 }
 
+// Kind 1: the halves of the register at an address.
 fn read_register(body: &[u8], profile: Profile) -> BodyAnswer
     requires { ⌜ length (now body) ≡ 4 ⌝ }
     ensures { λ r. ⌜ r ≡ registerAnswer (now (body .entry)) profile ⌝ }
@@ -252,6 +253,7 @@ fn sequence_from(body: &[u8]) -> Sequence
     }
 }
 
+// Kind 2: the sequence of a number.
 fn read_sequence(body: &[u8], profile: Profile) -> BodyAnswer
     requires { ⌜ length (now body) ≡ 14 ⌝ }
     ensures { λ r. ⌜ r ≡ sequenceAnswer (now (body .entry)) profile ⌝ }
@@ -289,6 +291,7 @@ fn gate_from(body: &[u8]) -> Gate
     }
 }
 
+// Kind 4: the gate of a number.
 fn read_gate(body: &[u8], profile: Profile) -> BodyAnswer
     requires { ⌜ length (now body) ≡ 10 ⌝ }
     ensures { λ r. ⌜ r ≡ gateAnswer (now (body .entry)) profile ⌝ }
@@ -327,6 +330,7 @@ fn subck_from(body: &[u8]) -> Subck
     }
 }
 
+// Kind 5: SUBCK.
 fn read_subck(body: &[u8], profile: Profile) -> BodyAnswer
     requires { ⌜ length (now body) ≡ 10 ⌝ }
     ensures { λ r. ⌜ r ≡ subckAnswer (now (body .entry)) profile ⌝ }
@@ -362,6 +366,7 @@ fn shutter_from(body: &[u8]) -> Shutter
     }
 }
 
+// Kind 6: MSHUT or STROBE.
 fn read_shutter(body: &[u8], profile: Profile) -> BodyAnswer
     requires { ⌜ length (now body) ≡ 12 ⌝ }
     ensures { λ r. ⌜ r ≡ shutterAnswer (now (body .entry)) profile ⌝ }
@@ -410,6 +415,7 @@ fn mode_of(n: u16) -> Mode
     }
 }
 
+// Region i of a field's body, and whether its numbers are in range.
 fn region_from(body: &[u8], i: usize) -> RegionAnswer
     requires { ⌜ 16 + 6 * i ≤ length (now body) ⌝ }
     ensures { λ r. ⌜ r ≡ regionAnswer (now (body .entry)) i ⌝ }
@@ -428,6 +434,7 @@ fn region_from(body: &[u8], i: usize) -> RegionAnswer
     }
 }
 
+// The first regions of a field's body.
 fn regions_from(body: &[u8], count: usize) -> RegionsAnswer
     requires { ⌜ (10 + 6 * count ≤ length (now body)) × (count ≤ 7) ⌝ }
     ensures { λ r. ⌜ r ≡ regionsAnswer (now (body .entry)) count ⌝ }
@@ -467,6 +474,7 @@ fn head_from(body: &[u8]) -> Field
     }
 }
 
+// Kind 3: the field, with as many regions as the body has room for.
 fn read_field(body: &[u8], profile: Profile) -> BodyAnswer
     requires { ⌜ 9 < length (now body) ⌝ }
     ensures { λ r. ⌜ r ≡ fieldAnswer (now (body .entry)) profile ⌝ }
@@ -543,6 +551,7 @@ fn is_field_length(length: usize) -> bool
     (length <= 52) & ((length - 10) % 6 == 0)
 }
 
+// Whether a kind allows a body of this length.
 fn is_allowed(kind: u16, length: usize) -> bool
     ensures { λ r. ⌜ r ≡ allowed kind length ⌝ }
 {
@@ -567,6 +576,7 @@ fn refuse_record(number: u16) -> Found
     }
 }
 
+// The record at an offset, up to the values of its body.
 pub(crate) fn found_at(script: &[u8], at: usize) -> Found
     ensures { λ r. ⌜ r ≡ foundAt (now (script .entry)) at ⌝ }
 {
