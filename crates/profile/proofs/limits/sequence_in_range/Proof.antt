@@ -1,8 +1,8 @@
 -- The tests are those of the definition, joined in its order.
 -- Assumes nothing.
 use Rattle.profile.proofs.Readers.{all-joined}
-use Rattle.profile.proofs.ranges.sequence_in_range.Statement.{statement}
-use Rattle.profile.proofs.ranges.sequence_in_range.Tie as tie
+use Rattle.profile.proofs.limits.sequence_in_range.Statement.{statement}
+use Rattle.profile.proofs.limits.sequence_in_range.Tie as tie
 
 returns : tie.Need-returns
 returns c = all-joined _ _

@@ -1,4 +1,4 @@
-// What a record can carry: the ranges of each item.
+// What a record can carry: the ranges of an item that is given.
 use crate::Field;
 use crate::Gate;
 use crate::Region;
