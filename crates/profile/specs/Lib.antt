@@ -8,3 +8,4 @@ pub mod Rules
 pub mod Obeys
 pub mod Script
 pub mod Writing
+pub mod Reading

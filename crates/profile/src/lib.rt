@@ -23,6 +23,14 @@ pub use patterns::pattern_of;
 pub use patterns::rows_of;
 pub use patterns::used;
 
+mod limits;
+mod records;
+
+pub use records::RecordAnswer;
+pub use records::empty;
+pub use records::read_records;
+pub use records::record_at;
+
 // How the six V outputs run in a region.
 pub enum Mode {
     Plain,

@@ -1,0 +1,229 @@
+-- The record at an offset: which answer its tests give, what is known of one that is found whole, and what a step over it leaves.
+-- Assumes nothing.
+use mathlib.Core.Path.{_≡_, refl, sym, _∙_}
+use mathlib.Core.Bool.{true, false, cond}
+use mathlib.Core.List.{List}
+use Prim.Native.Nat.{ℕ, suc, _+_, _-_, _≤_, _<_}
+use native.Mathlib.Nat.{add-zero}
+use native.Mathlib.Omega.{arith}
+use borrow.Author.Tests.{ltb-false, lt-ltb, le-ltb, eqb-true, eqb-false}
+use lib.Dec.{ltb, eqb}
+use lib.ListN.{length, getD, take, drop, length-take, length-drop, drop-of-length-le}
+use lib.Seq.{getD-drop, drop-drop, drop-cons}
+use Rattle.profile.specs.Bytes.{numberAt}
+use Rattle.profile.specs.Values.{emptyProfile, refused, accepted, readAnswer}
+use Rattle.profile.specs.Script.{known, allowed, fits, put, bodyOf, Step, stop, next, step, records}
+use Rattle.profile.specs.Reading.{bodyAnswer, unfound, foundFront, foundAt, stepAnswer}
+use Rattle.profile.specs.declared.Profile.{Profile}
+use Rattle.profile.specs.declared.records.BodyAnswer.{BodyAnswer}
+use Rattle.profile.specs.declared.records.Found.{Found}
+use Rattle.profile.specs.declared.records.RecordAnswer.{RecordAnswer}
+use Rattle.profile.proofs.Laws.{by-cases}
+use Rattle.profile.proofs.Takes.{step-next, records-next, records-stop, records-done}
+
+-- ---- which answer
+
+-- a number of the rest of a script from an offset on
+number-rest : (s : List ℕ) (at k : ℕ) → numberAt (drop at s) k ≡ numberAt s (at + k)
+number-rest s at k =
+    let e : at + (k + 1) ≡ at + k + 1 = omega arith in
+    rw (getD-drop at s k 0, getD-drop at s (k + 1) 0, e)
+
+-- each answer, in the order of the tests
+module _ (s : List ℕ) (at : ℕ) where
+  pub head-cut : length s < at + 4 → unfound 2 ≡ foundAt s at
+  unfolding foundFront
+  head-cut h = rw (lt-ltb (length (drop at s)) 4 (omega (arith, length-drop at s)))
+
+  module _ (whole : at + 4 ≤ length s) (size kind : ℕ) (ez : size ≡ numberAt s at) (ek : kind ≡ numberAt s (at + 2)) where
+    header : ltb (length (drop at s)) 4 ≡ false
+    header = le-ltb (length (drop at s)) 4 (omega (arith, length-drop at s))
+
+    size-rest : numberAt (drop at s) 0 ≡ size
+    size-rest = number-rest s at 0 ∙ rw add-zero (sym ez)
+
+    kind-rest : numberAt (drop at s) 2 ≡ kind
+    kind-rest = number-rest s at 2 ∙ sym ek
+
+    pub kind-unknown : known kind ≡ false → unfound 3 ≡ foundAt s at
+    unfolding foundFront
+    kind-unknown e = rw (header, kind-rest, e)
+
+    module _ (e : known kind ≡ true) where
+      pub length-wrong : allowed kind size ≡ false → unfound 4 ≡ foundAt s at
+      unfolding foundFront
+      length-wrong f = rw (header, kind-rest, size-rest, e, f)
+
+      module _ (f : allowed kind size ≡ true) where
+        pub body-cut : length s < at + (4 + size) → unfound 2 ≡ foundAt s at
+        unfolding foundFront
+        body-cut h =
+            rw (header, kind-rest, size-rest, e, f, lt-ltb (length (drop at s)) (4 + size) (omega (arith, length-drop at s)))
+
+        pub body-found : at + (4 + size) ≤ length s
+            → record { number = 0; kind = kind; start = at + 4; end = at + (4 + size) } ≡ foundAt s at
+        unfolding foundFront
+        body-found h =
+            rw (header, kind-rest, size-rest, e, f, le-ltb (length (drop at s)) (4 + size) (omega (arith, length-drop at s)))
+
+-- ---- what is known of the answer
+
+-- a record that was found whole at the front of r
+pub record Whole (at : ℕ) (r : List ℕ) (f : Found) : Type 0 where
+  pub kind : f .kind ≡ numberAt r 2
+  pub start : f .start ≡ at + 4
+  pub end : f .end ≡ at + (4 + numberAt r 0)
+  pub right : allowed (numberAt r 2) (numberAt r 0) ≡ true
+  pub long : 4 + numberAt r 0 ≤ length r
+  pub values : (p : Profile) → step r p
+      ≡ cond (fits (numberAt r 2) (bodyOf r)) (next (numberAt r 0) (put (numberAt r 2) (bodyOf r) p)) (stop 5)
+
+-- found whole, or refused for the step too
+abbrev Known : ℕ → List ℕ → Found → Type 0
+Known at r f = (f .number ≡ 0 → Whole at r f) × ((f .number ≡ 0 → ⊥) → (p : Profile) → step r p ≡ stop (f .number))
+
+known-found : (at : ℕ) (r : List ℕ) → Known at r (foundFront at r)
+unfolding foundFront step
+known-found at r =
+    by-cases (ltb (length r) 4)
+    (λ a. rw a (λ z. absurd (omega arith), λ n p. refl))
+    (λ a.
+    by-cases (known (numberAt r 2))
+    (λ b.
+    by-cases (allowed (numberAt r 2) (numberAt r 0))
+    (λ c.
+    by-cases (ltb (length r) (4 + numberAt r 0))
+    (λ d. rw (a, b, c, d) (λ z. absurd (omega arith), λ n p. refl))
+    (λ d.
+    rw (a, b, c, d) (
+      λ z.
+          record {
+            kind = refl;
+            start = refl;
+            end = refl;
+            right = c;
+            long = ltb-false (length r) (4 + numberAt r 0) d;
+            values = λ p. rw (a, b, c, d);
+          },
+      λ n p. absurd (n refl),
+    )))
+    (λ c. rw (a, b, c) (λ z. absurd (omega arith), λ n p. refl)))
+    (λ b. rw (a, b) (λ z. absurd (omega arith), λ n p. refl)))
+
+-- ---- one record put into a profile
+
+module _ (s : List ℕ) (at : ℕ) (f : Found) (e : f ≡ foundAt s at) where
+  abbrev rest : List ℕ
+  rest = drop at s
+
+  pub whole-of : f .number ≡ 0 → Whole at rest f
+  whole-of z = rw e (known-found at rest .0 (rw e at z))
+
+  module _ (z : f .number ≡ 0) where
+    size : f .end - f .start ≡ numberAt rest 0
+    size = let w = whole-of z in omega arith
+
+    pub part-ordered : f .start ≤ f .end
+    part-ordered = let w = whole-of z in omega arith
+
+    pub part-inside : f .end ≤ length s
+    part-inside = let w = whole-of z in omega (arith, length-drop at s)
+
+    part-body : take (f .end - f .start) (drop (f .start) s) ≡ bodyOf rest
+    part-body = rw (size, whole-of z .start, drop-drop 4 at s)
+
+    pub part-allowed : allowed (f .kind) (length (take (f .end - f .start) (drop (f .start) s))) ≡ true
+    part-allowed =
+        let w = whole-of z in
+        let n : length (bodyOf rest) ≡ numberAt rest 0 = simp (length-take, length-drop) (omega (arith, length-drop at s)) in
+        rw (part-body, n, w .kind) (w .right)
+
+  module _ (p : Profile) where
+    pub step-refused : (f .number ≡ 0 → ⊥) → record { number = f .number; next = at; profile = p } ≡ stepAnswer at p (step rest p)
+    step-refused n =
+        let k : step rest p ≡ stop (f .number) = rw e (known-found at rest .1 (rw e at n) p) in
+        rw k
+
+    module _ (z : f .number ≡ 0) (t : BodyAnswer) where
+      abbrev Read : Type 0
+      Read =
+          t
+          ≡ bodyAnswer (fits (f .kind) (take (f .end - f .start) (drop (f .start) s)))
+          (put (f .kind) (take (f .end - f .start) (drop (f .start) s)) p) p
+
+      module _ (b : Read) where
+        body : t ≡ bodyAnswer (fits (numberAt rest 2) (bodyOf rest)) (put (numberAt rest 2) (bodyOf rest) p) p
+        body = rw (part-body z, whole-of z .kind) at b
+
+        pub step-unfit : t .fits ≡ false → record { number = 5; next = at; profile = p } ≡ stepAnswer at p (step rest p)
+        step-unfit y =
+            let n : fits (numberAt rest 2) (bodyOf rest) ≡ false = rw body at y in
+            rw (whole-of z .values p, n)
+
+        pub step-next-on : t .fits ≡ true → record { number = 0; next = f .end; profile = t .profile } ≡ stepAnswer at p (step rest p)
+        step-next-on y =
+            let n : fits (numberAt rest 2) (bodyOf rest) ≡ true = rw body at y in
+            rw (whole-of z .values p, body, n, whole-of z .end)
+
+-- ---- all records, one after the other
+
+-- no step is refused with the number 0
+stop-number : (r : List ℕ) (p : Profile) (n : ℕ) → step r p ≡ stop n → n ≡ 0 → ⊥
+stop-number r p n e z =
+    let f = foundFront 0 r in
+    let k = known-found 0 r in
+    by-cases (eqb (f .number) 0)
+    (λ a.
+    let v = k .0 (eqb-true (f .number) 0 a) .values p in
+    by-cases (fits (numberAt r 2) (bodyOf r))
+    (λ b. let w = rw b at v in next-stop (numberAt r 0) n (put (numberAt r 2) (bodyOf r) p) (sym w ∙ e))
+    (λ b. let w = rw b at v in stop-zero 5 n (sym w ∙ e) z (omega arith)))
+    (λ a. let m = eqb-false (f .number) 0 a in stop-zero (f .number) n (sym (k .1 m p) ∙ e) z m)
+  where
+    next-stop : (len n : ℕ) (q : Profile) → next len q ≡ stop n → ⊥
+    next-stop len n q e = let z : _≡_ {A = ℕ} 0 1 = cc in omega arith
+
+    stop-zero : (m n : ℕ) → stop m ≡ stop n → n ≡ 0 → (m ≡ 0 → ⊥) → ⊥
+    stop-zero m n e z h = h (cc)
+
+module _ (s : List ℕ) (at : ℕ) (p : Profile) (t : RecordAnswer) (e : t ≡ stepAnswer at p (step (drop at s) p)) where
+  -- a step that was taken
+  record Moved : Type 0 where
+    pub len : ℕ
+    pub place : t .next ≡ at + (4 + len)
+    pub took : step (drop at s) p ≡ next len (t .profile)
+
+  moved : t .number ≡ 0 → Moved
+  moved z = go (step (drop at s) p) refl e
+    where
+      go : (x : Step) → step (drop at s) p ≡ x → t ≡ stepAnswer at p x → Moved
+      go (stop n) q e = absurd (stop-number (drop at s) p n q (rw e at z))
+      go (next len r) q e = record { len = len; place = rw e; took = rw e q }
+
+  stopped : (t .number ≡ 0 → ⊥) → step (drop at s) p ≡ stop (t .number)
+  stopped n = go (step (drop at s) p) refl e
+    where
+      go : (x : Step) → step (drop at s) p ≡ x → t ≡ stepAnswer at p x → step (drop at s) p ≡ stop (t .number)
+      go (stop m) q e = rw e q
+      go (next len r) q e = absurd (n (rw e))
+
+  pub further : t .number ≡ 0 → at < t .next
+  further z = let m = moved z in omega arith
+
+  pub read-on : t .number ≡ 0 → records 0 (t .next) (drop (t .next) s) (t .profile) ≡ records 0 at (drop at s) p
+  read-on z =
+      let m = moved z in
+      let n = records-next (drop at s) at (m .len) p (t .profile) (step-next (drop at s) p (m .len) (t .profile) (m .took)) (m .took) in
+      rw (m .place, ← drop-drop (4 + m .len) at s) (sym n)
+
+  pub read-stop : at < length s → (t .number ≡ 0 → ⊥) → readAnswer (refused (t .number) at) p ≡ records 0 at (drop at s) p
+  read-stop h n =
+      let c = drop-cons s at 0 h in
+      rw c (sym (records-stop (getD s at 0) (drop (suc at) s) at (t .number) p (rw c at (stopped n))))
+
+pub read-start : (s : List ℕ) (p : Profile) → p ≡ emptyProfile → records 0 0 (drop 0 s) p ≡ records 0 0 s emptyProfile
+read-start s p e = rw e
+
+pub read-end : (s : List ℕ) (at : ℕ) (p : Profile) → length s ≤ at
+    → readAnswer accepted p ≡ records 0 at (drop at s) p
+read-end s at p h = rw (drop-of-length-le s h) (sym (records-done 0 at p))

@@ -1,0 +1,56 @@
+-- The number and the gate are those of the body, so the test is that of the definition; where it holds the gate is stored.
+-- Assumes nothing.
+use Rattle.profile.specs.Ranges.{gateRange}
+use Rattle.profile.specs.Script.{gateFits}
+use Rattle.profile.proofs.Readers.{told-no, told-yes, passed-limit, body-no, body-yes, item-test}
+use borrow.Author.Needs.{needs}
+use native.Mathlib.Omega.{arith}
+use Rattle.profile.proofs.records.read_gate.Statement.{statement}
+use Rattle.profile.proofs.records.read_gate.Tie as tie
+
+number-at-requires : tie.Need-number-at-requires
+number-at-requires c κs = search needs
+
+gate-from-requires : tie.Need-gate-from-requires
+gate-from-requires c κs = search needs
+
+gate-in-range-requires : tie.Need-gate-in-range-requires
+gate-in-range-requires c κs = search needs
+
+returns : tie.Need-returns
+unfolding gateFits
+returns c =
+    let d = c .before in
+    let t = item-test gateRange 4 _ _ _ _ _ (d .before .before .number-at .ensures) (d .before .gate-from .ensures)
+    (d .gate-in-range .ensures) in
+    body-no _ _ _ (told-no t (c .if1 .taken))
+
+cast-i : tie.Need-cast-i
+cast-i c = search needs
+
+mul-gate : tie.Need-mul-gate
+mul-gate c = search needs
+
+element-set-from-gate : tie.Need-element-set-from-gate
+element-set-from-gate c = omega (arith, passed-limit (c .before .before .before .before .number-at .result) 4 _ (c .before .if1 .left))
+
+returns-2 : tie.Need-returns-2
+unfolding gateFits
+returns-2 c =
+    let d = c .before .before in
+    let t = item-test gateRange 4 _ _ _ _ _ (d .before .before .number-at .ensures) (d .before .gate-from .ensures)
+    (d .gate-in-range .ensures) in
+    body-yes _ _ _ _ (told-yes t (c .before .if1 .left)) (rw (d .before .gate-from .ensures, d .before .before .number-at .ensures))
+
+pub read-gate-spec : {M : Type 1} → statement M
+read-gate-spec =
+    tie.close
+    (tie.spec
+    number-at-requires
+    gate-from-requires
+    gate-in-range-requires
+    returns
+    cast-i
+    mul-gate
+    element-set-from-gate
+    returns-2)

@@ -1,0 +1,76 @@
+-- The loop's invariant: what is left of the script from the offset on gives what the whole does. The measure is how much is left.
+-- Assumes nothing.
+use mathlib.Core.Path.{_≡_, _∙_}
+use Prim.Native.Nat.{_-_}
+use lib.ListN.{length, drop}
+use Rattle.profile.specs.Values.{emptyProfile}
+use Rattle.profile.specs.Script.{records}
+use Rattle.profile.proofs.OneRecord.{further, read-on, read-stop, read-start, read-end}
+use borrow.Author.Needs.{needs}
+use native.Mathlib.Omega.{arith}
+use Rattle.profile.proofs.records.read_records.Statement.{statement}
+use Rattle.profile.proofs.records.read_records.Tie as tie
+
+abbrev Inv-loop : tie.InvT-loop
+Inv-loop script profile₀ at₀ profile at = records 0 at (drop at script) profile ≡ records 0 0 script emptyProfile
+
+abbrev μ-loop : tie.MeasureT-loop
+μ-loop script profile₀ at₀ profile at = length script - at
+
+empty-requires : tie.Need-empty-requires Inv-loop μ-loop
+empty-requires c κs = search needs
+
+loop-holds : tie.Need-loop-holds Inv-loop μ-loop
+loop-holds c = read-start _ _ (c .empty .ensures)
+
+record-at-requires : tie.Need-record-at-requires Inv-loop μ-loop
+record-at-requires c κs = search needs
+
+make-answer-requires : tie.Need-make-answer-requires Inv-loop μ-loop
+make-answer-requires c κs = search needs
+
+returns : tie.Need-returns Inv-loop μ-loop
+returns c =
+    let l = c .before .before .before .before .before .loop in
+    let s = c .before .before .before .before .before .before .before .before .args .script .now in
+    c .make-answer .ensures ∙ read-stop s (l .at) (l .profile) _ (c .before .before .before .record-at .ensures)
+    (c .before .before .before .before .loop-test .taken) (c .before .if1 .taken) ∙ l .inv
+
+loop-less : tie.Need-loop-less Inv-loop μ-loop
+loop-less c =
+    let l = c .before .before .before .before .before .loop in
+    let s = c .before .before .before .before .before .before .before .before .args .script .now in
+    omega (
+      arith,
+      c .before .before .before .before .loop-test .taken,
+      further s (l .at) (l .profile) _
+          (c .before .before .before .record-at .ensures) (c .before .if1 .left),
+    )
+
+loop-again : tie.Need-loop-again Inv-loop μ-loop
+loop-again c =
+    let l = c .before .before .before .before .before .loop in
+    let s = c .before .before .before .before .before .before .before .before .args .script .now in
+    read-on s (l .at) (l .profile) _ (c .before .before .before .record-at .ensures) (c .before .if1 .left) ∙ l .inv
+
+make-answer-requires-2 : tie.Need-make-answer-requires-2 Inv-loop μ-loop
+make-answer-requires-2 c κs = search needs
+
+returns-2 : tie.Need-returns-2 Inv-loop μ-loop
+returns-2 c = c .make-answer2 .ensures ∙ read-end _ _ _ (c .before .loop-test .left) ∙ c .before .before .loop .inv
+
+pub read-records-spec : {M : Type 1} → statement M
+read-records-spec =
+    tie.close
+    (tie.spec
+    Inv-loop
+    μ-loop
+    empty-requires
+    loop-holds
+    record-at-requires
+    make-answer-requires
+    returns
+    loop-less
+    loop-again
+    make-answer-requires-2
+    returns-2)

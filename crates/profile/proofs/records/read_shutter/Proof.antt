@@ -1,0 +1,57 @@
+-- The number and the shutter are those of the body, so the test is that of the definition; where it holds the shutter is stored.
+-- Assumes nothing.
+use Rattle.profile.specs.Ranges.{shutterRange}
+use Rattle.profile.specs.Script.{shutterFits}
+use Rattle.profile.proofs.Readers.{told-no, told-yes, passed-limit, body-no, body-yes, item-test}
+use borrow.Author.Needs.{needs}
+use native.Mathlib.Omega.{arith}
+use Rattle.profile.proofs.records.read_shutter.Statement.{statement}
+use Rattle.profile.proofs.records.read_shutter.Tie as tie
+
+number-at-requires : tie.Need-number-at-requires
+number-at-requires c κs = search needs
+
+shutter-from-requires : tie.Need-shutter-from-requires
+shutter-from-requires c κs = search needs
+
+shutter-in-range-requires : tie.Need-shutter-in-range-requires
+shutter-in-range-requires c κs = search needs
+
+returns : tie.Need-returns
+unfolding shutterFits
+returns c =
+    let d = c .before in
+    let t = item-test shutterRange 1 _ _ _ _ _ (d .before .before .number-at .ensures) (d .before .shutter-from .ensures)
+    (d .shutter-in-range .ensures) in
+    body-no _ _ _ (told-no t (c .if1 .taken))
+
+cast-i : tie.Need-cast-i
+cast-i c = search needs
+
+mul-shutter : tie.Need-mul-shutter
+mul-shutter c = search needs
+
+element-set-from-shutter : tie.Need-element-set-from-shutter
+element-set-from-shutter c =
+    omega (arith, passed-limit (c .before .before .before .before .number-at .result) 1 _ (c .before .if1 .left))
+
+returns-2 : tie.Need-returns-2
+unfolding shutterFits
+returns-2 c =
+    let d = c .before .before in
+    let t = item-test shutterRange 1 _ _ _ _ _ (d .before .before .number-at .ensures) (d .before .shutter-from .ensures)
+    (d .shutter-in-range .ensures) in
+    body-yes _ _ _ _ (told-yes t (c .before .if1 .left)) (rw (d .before .shutter-from .ensures, d .before .before .number-at .ensures))
+
+pub read-shutter-spec : {M : Type 1} → statement M
+read-shutter-spec =
+    tie.close
+    (tie.spec
+    number-at-requires
+    shutter-from-requires
+    shutter-in-range-requires
+    returns
+    cast-i
+    mul-shutter
+    element-set-from-shutter
+    returns-2)

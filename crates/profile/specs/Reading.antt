@@ -1,0 +1,111 @@
+-- The answers of the reader in code, by the definitions of reading: a body's values, regions, the record at an offset, and one step.
+-- Assumes nothing.
+use Prim.Native.Nat.{ℕ, _+_, _-_}
+use mathlib.Core.List.{List, _++_}
+use mathlib.Core.Bool.{Bool, true, cond, not}
+use lib.ListN.{length, drop, replicate}
+use lib.Dec.{ltb}
+use Rattle.profile.specs.Lists.{all, chunks}
+use Rattle.profile.specs.Bytes.{numberAt}
+use Rattle.profile.specs.Values.{emptyRegion}
+use Rattle.profile.specs.Script.{
+  registerFits,
+  withRegister,
+  sequenceFits,
+  withSequence,
+  regionFrom,
+  regionsFrom,
+  fieldFrom,
+  regionFits,
+  fieldFits,
+  gateFits,
+  withGate,
+  subckFits,
+  withSubck,
+  shutterFits,
+  withShutter,
+  known,
+  allowed,
+  Step,
+  stop,
+  next,
+}
+use Rattle.profile.specs.declared.Field.{Field}
+use Rattle.profile.specs.declared.Tables.{Tables}
+use Rattle.profile.specs.declared.Profile.{Profile}
+use Rattle.profile.specs.declared.records.BodyAnswer.{BodyAnswer}
+use Rattle.profile.specs.declared.records.RegionAnswer.{RegionAnswer}
+use Rattle.profile.specs.declared.records.RegionsAnswer.{RegionsAnswer}
+use Rattle.profile.specs.declared.records.Found.{Found}
+use Rattle.profile.specs.declared.records.RecordAnswer.{RecordAnswer}
+
+-- a profile with other tables, with another field
+abbrev pub inTables : Tables → Profile → Profile
+inTables t p = record { tables = t; field = p .field }
+
+abbrev pub inField : Field → Profile → Profile
+inField f p = record { tables = p .tables; field = f }
+
+-- whether a body's values fit, and the profile with its item where they do
+abbrev pub bodyAnswer : Bool → Profile → Profile → BodyAnswer
+bodyAnswer fits new old = record { fits = fits; profile = cond fits new old }
+
+abbrev pub registerAnswer : List ℕ → Profile → BodyAnswer
+registerAnswer b p = bodyAnswer (registerFits b) (inTables (withRegister b (p .tables)) p) p
+
+abbrev pub sequenceAnswer : List ℕ → Profile → BodyAnswer
+sequenceAnswer b p = bodyAnswer (sequenceFits b) (inTables (withSequence b (p .tables)) p) p
+
+abbrev pub fieldAnswer : List ℕ → Profile → BodyAnswer
+fieldAnswer b p = bodyAnswer (fieldFits b) (inField (fieldFrom b) p) p
+
+abbrev pub gateAnswer : List ℕ → Profile → BodyAnswer
+gateAnswer b p = bodyAnswer (gateFits b) (inTables (withGate b (p .tables)) p) p
+
+abbrev pub subckAnswer : List ℕ → Profile → BodyAnswer
+subckAnswer b p = bodyAnswer (subckFits b) (inTables (withSubck b (p .tables)) p) p
+
+abbrev pub shutterAnswer : List ℕ → Profile → BodyAnswer
+shutterAnswer b p = bodyAnswer (shutterFits b) (inTables (withShutter b (p .tables)) p) p
+
+-- the numbers of a field's body before its regions
+abbrev pub headFrom : List ℕ → Field
+headFrom b =
+    record {
+      present = true;
+      lines = numberAt b 0;
+      last = numberAt b 2;
+      gate = numberAt b 4;
+      second = numberAt b 6;
+      count = numberAt b 8;
+      regions = replicate 7 emptyRegion;
+    }
+
+-- region i of a body, and the first n of seven
+abbrev pub regionAnswer : List ℕ → ℕ → RegionAnswer
+regionAnswer b i = record { fits = all (regionFits b i); region = regionFrom b i }
+
+abbrev pub regionsAnswer : List ℕ → ℕ → RegionsAnswer
+regionsAnswer b n =
+    record { fits = all (chunks n (regionFits b)); regions = regionsFrom b n ++ replicate (7 - n) emptyRegion }
+
+-- a record that is refused before its values are read
+abbrev pub unfound : ℕ → Found
+unfound n = record { number = n; kind = 0; start = 0; end = 0 }
+
+-- the record at the front of s, which stands at the offset at: its kind, where its body starts and ends
+unfoldable pub foundFront : ℕ → List ℕ → Found
+foundFront at s =
+    cond (ltb (length s) 4) (unfound 2)
+    (cond (not (known (numberAt s 2))) (unfound 3)
+    (cond (not (allowed (numberAt s 2) (numberAt s 0))) (unfound 4)
+    (cond (ltb (length s) (4 + numberAt s 0)) (unfound 2)
+    (record { number = 0; kind = numberAt s 2; start = at + 4; end = at + (4 + numberAt s 0) }))))
+
+abbrev pub foundAt : List ℕ → ℕ → Found
+foundAt s at = foundFront at (drop at s)
+
+-- what a step at an offset leaves: 0 or the number of its refusal, the offset of the next record, the profile
+abbrev pub stepAnswer : ℕ → Profile → Step → RecordAnswer
+stepAnswer at p (stop n) = record { number = n; next = at; profile = p }
+stepAnswer at p (next len q) = record { number = 0; next = at + (4 + len); profile = q }

@@ -1,0 +1,681 @@
+// Reading a script record by record: refusals 2 to 5. Each record's body goes to the reader of its kind as a part of the script.
+use crate::Field;
+use crate::Gate;
+use crate::Mode;
+use crate::Profile;
+use crate::ReadAnswer;
+use crate::Region;
+use crate::Sequence;
+use crate::Shutter;
+use crate::Subck;
+use crate::Tables;
+use crate::Verdict;
+use crate::limits::field_in_range;
+use crate::limits::gate_in_range;
+use crate::limits::region_in_range;
+use crate::limits::sequence_in_range;
+use crate::limits::shutter_in_range;
+use crate::limits::subck_in_range;
+ghost use mathlib.Core.Path.{_≡_};
+ghost use mathlib.Core.Bool.{true};
+ghost use Prim.Native.Nat.{_+_, _*_, _<_, _≤_};
+ghost use lib.ListN.{length, drop};
+ghost use Rattle.profile.specs.Bytes.{numberAt, dataAt};
+ghost use Rattle.profile.specs.Values.{
+  modeOf,
+  emptyRegion,
+  emptySequence,
+  emptyGate,
+  emptySubck,
+  emptyShutter,
+  emptyField,
+  emptyTables,
+  emptyProfile,
+  readAnswer,
+};
+ghost use Rattle.profile.specs.Script.{
+  sequenceFrom,
+  gateFrom,
+  subckFrom,
+  shutterFrom,
+  known,
+  fieldLength,
+  allowed,
+  fits,
+  put,
+  step,
+  records,
+};
+ghost use Rattle.profile.specs.Reading.{
+  registerAnswer,
+  sequenceAnswer,
+  fieldAnswer,
+  gateAnswer,
+  subckAnswer,
+  shutterAnswer,
+  bodyAnswer,
+  headFrom,
+  regionAnswer,
+  regionsAnswer,
+  unfound,
+  foundAt,
+  stepAnswer,
+};
+
+// ---- the empty profile
+
+fn make_region() -> Region
+    ensures { λ r. ⌜ r ≡ emptyRegion ⌝ }
+{
+    Region {
+        first: 0,
+        sequence: 0,
+        mode: Mode::Plain,
+    }
+}
+
+fn make_sequence() -> Sequence
+    ensures { λ r. ⌜ r ≡ emptySequence ⌝ }
+{
+    Sequence {
+        present: false,
+        pattern: 0,
+        length: 0,
+        start: 0,
+        odd: 0,
+        even: 0,
+        mask: 0,
+    }
+}
+
+fn make_gate() -> Gate
+    ensures { λ r. ⌜ r ≡ emptyGate ⌝ }
+{
+    Gate {
+        present: false,
+        on: 0,
+        level: 0,
+        toggle1: 0,
+        toggle2: 0,
+    }
+}
+
+fn make_subck() -> Subck
+    ensures { λ r. ⌜ r ≡ emptySubck ⌝ }
+{
+    Subck {
+        present: false,
+        level: 0,
+        toggle1: 0,
+        toggle2: 0,
+        suppressed: 0,
+        count: 0,
+    }
+}
+
+fn make_shutter() -> Shutter
+    ensures { λ r. ⌜ r ≡ emptyShutter ⌝ }
+{
+    Shutter {
+        present: false,
+        active: 0,
+        on_line: 0,
+        on_pixel: 0,
+        off_line: 0,
+        off_pixel: 0,
+    }
+}
+
+fn make_tables() -> Tables
+    ensures { λ r. ⌜ r ≡ emptyTables ⌝ }
+{
+    let sequence = make_sequence();
+    let gate = make_gate();
+    let subck = make_subck();
+    let shutter = make_shutter();
+    let registers = [0u16; 240];
+    let sequences = [sequence; 10];
+    let gates = [gate; 5];
+    let shutters = [shutter; 2];
+    Tables {
+        registers: registers,
+        sequences: sequences,
+        gates: gates,
+        subck: subck,
+        shutters: shutters,
+    }
+}
+
+fn make_field() -> Field
+    ensures { λ r. ⌜ r ≡ emptyField ⌝ }
+{
+    let region = make_region();
+    let regions = [region; 7];
+    Field {
+        present: false,
+        lines: 0,
+        last: 0,
+        gate: 0,
+        second: 0,
+        count: 0,
+        regions: regions,
+    }
+}
+
+// The empty profile: nothing present, all zeros.
+pub fn empty() -> Profile
+    ensures { λ r. ⌜ r ≡ emptyProfile ⌝ }
+{
+    let tables = make_tables();
+    let field = make_field();
+    Profile {
+        tables: tables,
+        field: field,
+    }
+}
+
+// ---- numbers of a body, little-endian
+
+fn wide(x: u8) -> u16
+    ensures { λ r. ⌜ (r ≡ x) × (r < 256) ⌝ }
+{
+    x as u16
+}
+
+fn wider(x: u8) -> u32
+    ensures { λ r. ⌜ (r ≡ x) × (r < 256) ⌝ }
+{
+    x as u32
+}
+
+// The number of two bytes.
+fn number_at(body: &[u8], at: usize) -> u16
+    requires { ⌜ at + 1 < length (now body) ⌝ }
+    ensures { λ r. ⌜ r ≡ numberAt (now (body .entry)) at ⌝ }
+{
+    wide(body[at]) + 256 * wide(body[at + 1])
+}
+
+// The number of three bytes.
+fn data_at(body: &[u8], at: usize) -> u32
+    requires { ⌜ at + 2 < length (now body) ⌝ }
+    ensures { λ r. ⌜ (r ≡ dataAt (now (body .entry)) at) × (r < 16777216) ⌝ }
+{
+    wider(body[at]) + 256 * wider(body[at + 1]) + 65536 * wider(body[at + 2])
+}
+
+// ---- one reader a kind
+
+// Whether a body's values are in range, and the profile: with its item where they are, else as it was.
+pub struct BodyAnswer {
+    pub fits: bool,
+    pub profile: Profile,
+}
+
+// Kind 1: the halves of the register at an address.
+fn read_register(body: &[u8], profile: Profile) -> BodyAnswer
+    requires { ⌜ length (now body) ≡ 4 ⌝ }
+    ensures { λ r. ⌜ r ≡ registerAnswer (now (body .entry)) profile ⌝ }
+{
+    let address = wide(body[0]);
+    let data = data_at(body, 1);
+    let fits = (address <= 119) & ((address % 12 != 0) | (data / 64 % 64 == 0));
+    if !fits {
+        return BodyAnswer {
+            fits: false,
+            profile: profile,
+        };
+    }
+    let i = 2 * (address as usize);
+    let mut tables = profile.tables;
+    tables.registers[i] = (data % 4096) as u16;
+    tables.registers[i + 1] = (data / 4096) as u16;
+    let mut after = profile;
+    after.tables = tables;
+    BodyAnswer {
+        fits: true,
+        profile: after,
+    }
+}
+
+fn sequence_from(body: &[u8]) -> Sequence
+    requires { ⌜ length (now body) ≡ 14 ⌝ }
+    ensures { λ r. ⌜ r ≡ sequenceFrom (now (body .entry)) ⌝ }
+{
+    Sequence {
+        present: true,
+        pattern: number_at(body, 2),
+        length: number_at(body, 4),
+        start: number_at(body, 6),
+        odd: number_at(body, 8),
+        even: number_at(body, 10),
+        mask: number_at(body, 12),
+    }
+}
+
+// Kind 2: the sequence of a number.
+fn read_sequence(body: &[u8], profile: Profile) -> BodyAnswer
+    requires { ⌜ length (now body) ≡ 14 ⌝ }
+    ensures { λ r. ⌜ r ≡ sequenceAnswer (now (body .entry)) profile ⌝ }
+{
+    let number = number_at(body, 0);
+    let sequence = sequence_from(body);
+    let fits = (number <= 9) & sequence_in_range(sequence);
+    if !fits {
+        return BodyAnswer {
+            fits: false,
+            profile: profile,
+        };
+    }
+    let i = number as usize;
+    let mut tables = profile.tables;
+    tables.sequences[i] = sequence;
+    let mut after = profile;
+    after.tables = tables;
+    BodyAnswer {
+        fits: true,
+        profile: after,
+    }
+}
+
+fn gate_from(body: &[u8]) -> Gate
+    requires { ⌜ length (now body) ≡ 10 ⌝ }
+    ensures { λ r. ⌜ r ≡ gateFrom (now (body .entry)) ⌝ }
+{
+    Gate {
+        present: true,
+        on: number_at(body, 2),
+        level: number_at(body, 4),
+        toggle1: number_at(body, 6),
+        toggle2: number_at(body, 8),
+    }
+}
+
+// Kind 4: the gate of a number.
+fn read_gate(body: &[u8], profile: Profile) -> BodyAnswer
+    requires { ⌜ length (now body) ≡ 10 ⌝ }
+    ensures { λ r. ⌜ r ≡ gateAnswer (now (body .entry)) profile ⌝ }
+{
+    let number = number_at(body, 0);
+    let gate = gate_from(body);
+    let fits = (number <= 4) & gate_in_range(gate);
+    if !fits {
+        return BodyAnswer {
+            fits: false,
+            profile: profile,
+        };
+    }
+    let i = number as usize;
+    let mut tables = profile.tables;
+    tables.gates[i] = gate;
+    let mut after = profile;
+    after.tables = tables;
+    BodyAnswer {
+        fits: true,
+        profile: after,
+    }
+}
+
+fn subck_from(body: &[u8]) -> Subck
+    requires { ⌜ length (now body) ≡ 10 ⌝ }
+    ensures { λ r. ⌜ r ≡ subckFrom (now (body .entry)) ⌝ }
+{
+    Subck {
+        present: true,
+        level: number_at(body, 0),
+        toggle1: number_at(body, 2),
+        toggle2: number_at(body, 4),
+        suppressed: number_at(body, 6),
+        count: number_at(body, 8),
+    }
+}
+
+// Kind 5: SUBCK.
+fn read_subck(body: &[u8], profile: Profile) -> BodyAnswer
+    requires { ⌜ length (now body) ≡ 10 ⌝ }
+    ensures { λ r. ⌜ r ≡ subckAnswer (now (body .entry)) profile ⌝ }
+{
+    let subck = subck_from(body);
+    if !subck_in_range(subck) {
+        return BodyAnswer {
+            fits: false,
+            profile: profile,
+        };
+    }
+    let mut tables = profile.tables;
+    tables.subck = subck;
+    let mut after = profile;
+    after.tables = tables;
+    BodyAnswer {
+        fits: true,
+        profile: after,
+    }
+}
+
+fn shutter_from(body: &[u8]) -> Shutter
+    requires { ⌜ length (now body) ≡ 12 ⌝ }
+    ensures { λ r. ⌜ r ≡ shutterFrom (now (body .entry)) ⌝ }
+{
+    Shutter {
+        present: true,
+        active: number_at(body, 2),
+        on_line: number_at(body, 4),
+        on_pixel: number_at(body, 6),
+        off_line: number_at(body, 8),
+        off_pixel: number_at(body, 10),
+    }
+}
+
+// Kind 6: MSHUT or STROBE.
+fn read_shutter(body: &[u8], profile: Profile) -> BodyAnswer
+    requires { ⌜ length (now body) ≡ 12 ⌝ }
+    ensures { λ r. ⌜ r ≡ shutterAnswer (now (body .entry)) profile ⌝ }
+{
+    let number = number_at(body, 0);
+    let shutter = shutter_from(body);
+    let fits = (number <= 1) & shutter_in_range(shutter);
+    if !fits {
+        return BodyAnswer {
+            fits: false,
+            profile: profile,
+        };
+    }
+    let i = number as usize;
+    let mut tables = profile.tables;
+    tables.shutters[i] = shutter;
+    let mut after = profile;
+    after.tables = tables;
+    BodyAnswer {
+        fits: true,
+        profile: after,
+    }
+}
+
+// ---- a field's regions
+
+// A region that was read, and whether its numbers are in range.
+pub struct RegionAnswer {
+    pub fits: bool,
+    pub region: Region,
+}
+
+// The regions that were read and empty ones up to seven, and whether all that were read are in range.
+pub struct RegionsAnswer {
+    pub fits: bool,
+    pub regions: [Region; 7],
+}
+
+fn mode_of(n: u16) -> Mode
+    ensures { λ r. ⌜ r ≡ modeOf n ⌝ }
+{
+    match n {
+        0 => Mode::Plain,
+        1 => Mode::Sweep,
+        _ => Mode::Multiplier,
+    }
+}
+
+// Region i of a field's body, and whether its numbers are in range.
+fn region_from(body: &[u8], i: usize) -> RegionAnswer
+    requires { ⌜ 16 + 6 * i ≤ length (now body) ⌝ }
+    ensures { λ r. ⌜ r ≡ regionAnswer (now (body .entry)) i ⌝ }
+{
+    let first = number_at(body, 10 + 6 * i);
+    let sequence = number_at(body, 12 + 6 * i);
+    let number = number_at(body, 14 + 6 * i);
+    let region = Region {
+        first: first,
+        sequence: sequence,
+        mode: mode_of(number),
+    };
+    RegionAnswer {
+        fits: (number <= 2) & region_in_range(region),
+        region: region,
+    }
+}
+
+// The first regions of a field's body.
+fn regions_from(body: &[u8], count: usize) -> RegionsAnswer
+    requires { ⌜ (10 + 6 * count ≤ length (now body)) × (count ≤ 7) ⌝ }
+    ensures { λ r. ⌜ r ≡ regionsAnswer (now (body .entry)) count ⌝ }
+{
+    let none = make_region();
+    let mut regions = [none; 7];
+    let mut fits = true;
+    let mut i: usize = 0;
+    while i < count {
+        let given = region_from(body, i);
+        let region = given.region;
+        regions[i] = region;
+        fits = fits & given.fits;
+        i += 1;
+    }
+    RegionsAnswer {
+        fits: fits,
+        regions: regions,
+    }
+}
+
+// The numbers before the regions.
+fn head_from(body: &[u8]) -> Field
+    requires { ⌜ 9 < length (now body) ⌝ }
+    ensures { λ r. ⌜ r ≡ headFrom (now (body .entry)) ⌝ }
+{
+    let none = make_region();
+    let regions = [none; 7];
+    Field {
+        present: true,
+        lines: number_at(body, 0),
+        last: number_at(body, 2),
+        gate: number_at(body, 4),
+        second: number_at(body, 6),
+        count: number_at(body, 8),
+        regions: regions,
+    }
+}
+
+// Kind 3: the field, with as many regions as the body has room for.
+fn read_field(body: &[u8], profile: Profile) -> BodyAnswer
+    requires { ⌜ 9 < length (now body) ⌝ }
+    ensures { λ r. ⌜ r ≡ fieldAnswer (now (body .entry)) profile ⌝ }
+{
+    let bad = BodyAnswer {
+        fits: false,
+        profile: profile,
+    };
+    let head = head_from(body);
+    let count = head.count as usize;
+    let fits = (10 + 6 * count == body.len()) & field_in_range(head);
+    if !fits {
+        return bad;
+    }
+    let given = regions_from(body, count);
+    if !given.fits {
+        return bad;
+    }
+    let regions = given.regions;
+    let mut field = head;
+    field.regions = regions;
+    let mut after = profile;
+    after.field = field;
+    BodyAnswer {
+        fits: true,
+        profile: after,
+    }
+}
+
+// The reader of a kind, given a body of a length that the kind allows.
+fn read_body(kind: u16, body: &[u8], profile: Profile) -> BodyAnswer
+    requires { ⌜ allowed kind (length (now body)) ≡ true ⌝ }
+    ensures { λ r. ⌜ r ≡ bodyAnswer (fits kind (now (body .entry))) (put kind (now (body .entry)) profile) profile ⌝ }
+{
+    match kind {
+        1 => read_register(body, profile),
+        2 => read_sequence(body, profile),
+        3 => read_field(body, profile),
+        4 => read_gate(body, profile),
+        5 => read_subck(body, profile),
+        _ => read_shutter(body, profile),
+    }
+}
+
+// ---- one record
+
+// The record at an offset: its kind, where its body starts and ends; or the number of its refusal before its values are read.
+pub struct Found {
+    pub number: u16,
+    pub kind: u16,
+    pub start: usize,
+    pub end: usize,
+}
+
+// 0 or the number of the refusal, the next record's offset, and the profile with this record.
+pub struct RecordAnswer {
+    pub number: u16,
+    pub next: usize,
+    pub profile: Profile,
+}
+
+fn is_known(kind: u16) -> bool
+    ensures { λ r. ⌜ r ≡ known kind ⌝ }
+{
+    (1 <= kind) & (kind <= 6)
+}
+
+fn is_field_length(length: usize) -> bool
+    ensures { λ r. ⌜ r ≡ fieldLength length ⌝ }
+{
+    if length < 16 {
+        return false;
+    }
+    (length <= 52) & ((length - 10) % 6 == 0)
+}
+
+// Whether a kind allows a body of this length.
+fn is_allowed(kind: u16, length: usize) -> bool
+    ensures { λ r. ⌜ r ≡ allowed kind length ⌝ }
+{
+    match kind {
+        1 => length == 4,
+        2 => length == 14,
+        3 => is_field_length(length),
+        4 => length == 10,
+        5 => length == 10,
+        _ => length == 12,
+    }
+}
+
+fn refuse_record(number: u16) -> Found
+    ensures { λ r. ⌜ r ≡ unfound number ⌝ }
+{
+    Found {
+        number: number,
+        kind: 0,
+        start: 0,
+        end: 0,
+    }
+}
+
+// The record at an offset, up to the values of its body.
+pub(crate) fn found_at(script: &[u8], at: usize) -> Found
+    ensures { λ r. ⌜ r ≡ foundAt (now (script .entry)) at ⌝ }
+{
+    let length = script.len();
+    if length < 4 {
+        return refuse_record(2);
+    }
+    if length - 4 < at {
+        return refuse_record(2);
+    }
+    let size = number_at(script, at) as usize;
+    let kind = number_at(script, at + 2);
+    if !is_known(kind) {
+        return refuse_record(3);
+    }
+    if !is_allowed(kind, size) {
+        return refuse_record(4);
+    }
+    if length - 4 - at < size {
+        return refuse_record(2);
+    }
+    Found {
+        number: 0,
+        kind: kind,
+        start: at + 4,
+        end: at + (4 + size),
+    }
+}
+
+// One record at an offset of the script, put into the profile. Past the end there is none: 2.
+pub fn record_at(script: &[u8], at: usize, profile: Profile) -> RecordAnswer
+    ensures { λ r. ⌜ r ≡ stepAnswer at profile (step (drop at (now (script .entry))) profile) ⌝ }
+{
+    let found = found_at(script, at);
+    if found.number != 0 {
+        return RecordAnswer {
+            number: found.number,
+            next: at,
+            profile: profile,
+        };
+    }
+    let start = found.start;
+    let end = found.end;
+    let taken = read_body(found.kind, &script[start..end], profile);
+    if !taken.fits {
+        return RecordAnswer {
+            number: 5,
+            next: at,
+            profile: profile,
+        };
+    }
+    let after = taken.profile;
+    RecordAnswer {
+        number: 0,
+        next: end,
+        profile: after,
+    }
+}
+
+// ---- all records
+
+// A verdict with its profile: the empty one with a refusal.
+fn make_answer(verdict: Verdict, profile: Profile) -> ReadAnswer
+    ensures { λ r. ⌜ r ≡ readAnswer verdict profile ⌝ }
+{
+    if verdict.number != 0 {
+        let none = empty();
+        return ReadAnswer {
+            verdict: verdict,
+            profile: none,
+        };
+    }
+    ReadAnswer {
+        verdict: verdict,
+        profile: profile,
+    }
+}
+
+// The profile of a script's records, or the first refusal with its record's offset and the empty profile.
+pub fn read_records(script: &[u8]) -> ReadAnswer
+    ensures { λ r. ⌜ r ≡ records 0 0 (now (script .entry)) emptyProfile ⌝ }
+{
+    let mut profile = empty();
+    let mut at: usize = 0;
+    while at < script.len() {
+        let answer = record_at(script, at, profile);
+        if answer.number != 0 {
+            let refusal = Verdict {
+                number: answer.number,
+                place: at as u64,
+            };
+            return make_answer(refusal, profile);
+        }
+        profile = answer.profile;
+        at = answer.next;
+    }
+    let verdict = Verdict {
+        number: 0,
+        place: 0,
+    };
+    make_answer(verdict, profile)
+}
