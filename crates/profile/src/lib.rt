@@ -1,5 +1,6 @@
 // Scripts and profiles. A profile is what a script carries: the 120 registers as 240 half registers, sequences, the field, gates, SUBCK and
 // shutters. Numbers are u16 as the records carry them, levels and on flags too (0 or 1); presence is a bool.
+mod ranges;
 
 // How the six V outputs run in a region.
 pub enum Mode {
