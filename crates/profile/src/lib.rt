@@ -1,6 +1,7 @@
 // Scripts and profiles. A profile is what a script carries: the 120 registers as 240 half registers, sequences, the field, gates, SUBCK and
 // shutters. Numbers are u16 as the records carry them, levels and on flags too (0 or 1); presence is a bool.
 mod ranges;
+mod writing;
 
 // How the six V outputs run in a region.
 pub enum Mode {
