@@ -1,13 +1,13 @@
 -- Runs of stores: a run right after a run is one run, a run from the front is `over`, and a turn of each loop that stores.
 -- Assumes nothing.
-use mathlib.Core.Path.{_≡_, refl, sym, ap, _∙_}
+use mathlib.Core.Path.{_≡_, refl, ap, _∙_}
 use mathlib.Core.Bool.{Bool, true, false, cond}
-use mathlib.Core.List.{List, [], _∷_, _++_, map}
+use mathlib.Core.List.{List, [], _∷_, _++_}
 use Prim.Native.Nat.{ℕ, suc, _+_, _*_, _/_, _%_, _≤_, _<_}
 use native.Mathlib.Nat.{add-zero, zero-add}
 use native.Mathlib.Numerals.{add-one}
 use native.Mathlib.Omega.{arith}
-use lib.ListN.{length, getD, take, set, length-append, length-map}
+use lib.ListN.{length, getD, take, set, length-append}
 use lib.Seq.{sets, sets-eq, take-suc, length-take-le}
 use Rattle.profile.specs.Lists.{chunks, over}
 use Rattle.profile.specs.Bytes.{twoBytes}
@@ -72,10 +72,6 @@ length-chunks-more n f = ap length (chunks-more n f) ∙ rw length-append
 pub length-chosen : {A : Type 0} (b : Bool) (s : List A) → length (cond b s []) ≡ cond b (length s) 0
 length-chosen true s = refl
 length-chosen false s = refl
-
--- what owning an array of structs tells of its length
-pub length-unmapped : {A B : Type 0} (f : A → B) (l : List A) (n : ℕ) → length (map f l) ≡ n → length l ≡ n
-length-unmapped f l n e = sym (length-map l f) ∙ e
 
 -- the field's record: its seven numbers, then its regions
 pub sets-field : (f : Field) (l a b : List ℕ) (at n : ℕ) → n ≡ regionCount f
