@@ -3,6 +3,8 @@
 mod ranges;
 mod writing;
 
+pub use writing::write;
+
 // How the six V outputs run in a region.
 pub enum Mode {
     Plain,

@@ -6,7 +6,10 @@ use crate::Region;
 use crate::Sequence;
 use crate::Shutter;
 use crate::Subck;
+use crate::Verdict;
+use crate::Written;
 use crate::ranges::mode_number;
+use crate::rules::check;
 ghost use mathlib.Core.Path.{_≡_};
 ghost use mathlib.Core.Bool.{cond};
 ghost use mathlib.Core.List.{[]};
@@ -30,6 +33,8 @@ ghost use Rattle.profile.specs.Writing.{
   shutterRecord,
   shutterChunk,
   writeScript,
+  writeAnswer,
+  writeLeaves,
 };
 
 // Stores bytes at a place.
@@ -358,4 +363,36 @@ fn script_length(profile: Profile) -> usize
         + gates_length(gates)
         + size_of(subck.present, 14)
         + shutters_length(shutters)
+}
+
+// Writes the profile as a script from the slice's first byte on; or says why not, and leaves the slice as it is.
+pub fn write(profile: Profile, out: &mut [u8]) -> Written
+    ensures { λ r. ⌜ r ≡ writeAnswer profile (length (now (out .entry))) ⌝ }
+    ensures { λ _. ⌜ now (out .exit) ≡ writeLeaves profile (now (out .entry)) ⌝ }
+{
+    let verdict = check(profile);
+    if verdict.number != 0 {
+        return Written {
+            verdict: verdict,
+            length: 0,
+        };
+    }
+    let n = script_length(profile);
+    if out.len() < n {
+        return Written {
+            verdict: Verdict {
+                number: 18,
+                place: n as u64,
+            },
+            length: 0,
+        };
+    }
+    put_script(profile, out);
+    Written {
+        verdict: Verdict {
+            number: 0,
+            place: 0,
+        },
+        length: n,
+    }
 }
