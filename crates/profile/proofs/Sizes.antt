@@ -46,7 +46,7 @@ pub length-field : (f : Field) → length (fieldRecord f) ≡ 14 + 6 * regionCou
 length-field f = omega (arith, length-chunks 6 (regionCount f) (regionBytes f) (λ i. refl))
 
 -- the parts' lengths add up
-length-script : (p : Profile)
+pub length-script : (p : Profile)
     → length (writeScript p)
     ≡ 960 + length (chunks 10 (sequenceChunk (p .tables .sequences)))
     + length (fieldChunk (p .field))

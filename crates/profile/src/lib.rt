@@ -1,11 +1,15 @@
 // Scripts and profiles. A profile is what a script carries: the 120 registers as 240 half registers, sequences, the field, gates, SUBCK and
 // shutters. Numbers are u16 as the records carry them, levels and on flags too (0 or 1); presence is a bool.
 ghost use mathlib.Core.Path.{_≡_};
-ghost use Rattle.profile.specs.Values.{accepted, refused, emptyProfile};
+ghost use Rattle.profile.specs.Values.{accepted, refused};
 
 mod geometry;
+mod limits;
 mod patterns;
+mod ranges;
+mod records;
 mod rules;
+mod writing;
 
 pub use geometry::end_line;
 pub use geometry::has_pixel;
@@ -22,14 +26,13 @@ pub use geometry::sequence_of;
 pub use patterns::pattern_of;
 pub use patterns::rows_of;
 pub use patterns::used;
-
-mod limits;
-mod records;
-
 pub use records::RecordAnswer;
 pub use records::empty;
+pub use records::read;
 pub use records::read_records;
 pub use records::record_at;
+pub use rules::check;
+pub use writing::write;
 
 // How the six V outputs run in a region.
 pub enum Mode {

@@ -16,6 +16,7 @@ use crate::limits::region_in_range;
 use crate::limits::sequence_in_range;
 use crate::limits::shutter_in_range;
 use crate::limits::subck_in_range;
+use crate::rules::judge;
 ghost use mathlib.Core.Path.{_≡_};
 ghost use mathlib.Core.Bool.{true};
 ghost use Prim.Native.Nat.{_+_, _*_, _<_, _≤_};
@@ -45,6 +46,7 @@ ghost use Rattle.profile.specs.Script.{
   put,
   step,
   records,
+  readScript,
 };
 ghost use Rattle.profile.specs.Reading.{
   registerAnswer,
@@ -678,4 +680,24 @@ pub fn read_records(script: &[u8]) -> ReadAnswer
         place: 0,
     };
     make_answer(verdict, profile)
+}
+
+// Reads a script: its length (1), its records (2 to 5), then what is judged of the profile (6 to 17).
+pub fn read(script: &[u8]) -> ReadAnswer
+    ensures { λ r. ⌜ r ≡ readScript (now (script .entry)) ⌝ }
+{
+    if 16384 < script.len() {
+        let refusal = Verdict {
+            number: 1,
+            place: 0,
+        };
+        return make_answer(refusal, empty());
+    }
+    let taken = read_records(script);
+    let verdict = taken.verdict;
+    if verdict.number != 0 {
+        return taken;
+    }
+    let profile = taken.profile;
+    make_answer(judge(profile), profile)
 }

@@ -24,6 +24,7 @@ use crate::patterns::highest_used;
 use crate::patterns::pattern_of;
 use crate::patterns::rows_of;
 use crate::patterns::toggle_fault;
+use crate::ranges::in_range;
 use crate::refuse;
 ghost use mathlib.Core.Path.{_≡_};
 ghost use mathlib.Core.List.{[], _∷_, _++_};
@@ -56,6 +57,7 @@ ghost use Rattle.profile.specs.Rules.{
   shutterEntries,
   rulesOf,
   judge,
+  checkProfile,
 };
 
 // 7 at one region.
@@ -387,4 +389,14 @@ pub(crate) fn judge(profile: Profile) -> Verdict
     }
     let tables = profile.tables;
     rules_verdict(tables, field)
+}
+
+// Checks a profile handed in: its ranges (5), then 6 to 17.
+pub fn check(profile: Profile) -> Verdict
+    ensures { λ r. ⌜ r ≡ checkProfile profile ⌝ }
+{
+    if !in_range(profile) {
+        return refuse(5, 0);
+    }
+    judge(profile)
 }

@@ -1,0 +1,17 @@
+-- By its presence; the tests joined are those of the list.
+-- Assumes nothing.
+use Rattle.profile.proofs.Tested.{joined-all}
+use Rattle.profile.specs.Ranges.{gateIn}
+use Rattle.profile.proofs.ranges.gate_in.Statement.{statement}
+use Rattle.profile.proofs.ranges.gate_in.Tie as tie
+
+returns : tie.Need-returns
+unfolding gateIn
+returns c = rw (c .before .before .before .before .if1 .taken) (joined-all _ _)
+
+returns-2 : tie.Need-returns-2
+unfolding gateIn
+returns-2 c = rw (c .before .before .before .before .if1 .left) (joined-all _ _)
+
+pub gate-in-spec : {M : Type 1} → statement M
+gate-in-spec = tie.close (tie.spec returns returns-2)

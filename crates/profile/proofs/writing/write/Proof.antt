@@ -1,0 +1,47 @@
+-- Refused as the check refuses, no room, and written: one law for each answer.
+-- Assumes nothing.
+use Rattle.profile.proofs.Answers.{refused-first, no-room, room}
+use borrow.Author.Needs.{needs}
+use Rattle.profile.proofs.writing.write.Statement.{statement}
+use Rattle.profile.proofs.writing.write.Tie as tie
+
+check-requires : tie.Need-check-requires
+check-requires c κs = search needs
+
+returns : tie.Need-returns
+returns c = refused-first _ _ _ (c .before .before .check .ensures) (c .if1 .taken)
+
+script-length-requires : tie.Need-script-length-requires
+script-length-requires c κs = search needs
+
+returns-2 : tie.Need-returns-2
+returns-2 c =
+    let n = c .before in
+    let i = n .before in
+    no-room _ _ _ (i .before .before .check .ensures) (i .if1 .left) _ (n .script-length .ensures .0) (c .if2 .taken)
+
+put-script-requires : tie.Need-put-script-requires
+put-script-requires c κs = search needs
+
+same-length : tie.Need-same-length
+same-length c = search needs
+
+returns-3 : tie.Need-returns-3
+returns-3 c =
+    let w = c .before .before in
+    let e = w .before .before in
+    let n = e .before in
+    let i = n .before in
+    room _ _ _ (i .before .before .check .ensures) (i .if1 .left) _ (n .script-length .ensures .0) (e .if2 .left) _ (w .put-script .ensures)
+
+pub write-spec : {M : Type 1} → statement M
+write-spec =
+    tie.close
+    (tie.spec
+    check-requires
+    returns
+    script-length-requires
+    returns-2
+    put-script-requires
+    same-length
+    returns-3)
