@@ -2,20 +2,39 @@
 -- Assumes nothing.
 use mathlib.Core.Path.{_≡_, refl, sym, ap, _∙_}
 use mathlib.Core.Bool.{Bool, true, false, cond, not, _&&_, and-false}
-use mathlib.Core.List.{List, [], _∷_}
+use mathlib.Core.List.{List, [], _∷_, _++_}
 use Prim.Native.Nat.{ℕ, zero, suc, _+_, _-_, _*_, _/_, _%_, _^_, _≤_, _<_}
 use native.Mathlib.Nat.{le-div-iff-mul-le, mod-lt, mul-le-mul, mul-zero, div-one}
 use native.Mathlib.Numerals.{add-one}
 use native.Mathlib.Omega.{arith}
 use borrow.Author.Tests.{ltb-true, ltb-false, leb-true, leb-false, lt-ltb, le-ltb, le-leb, lt-leb, eq-eqb, ne-eqb, eqb-true, eqb-false}
 use lib.Dec.{ltb, leb, eqb}
-use lib.ListN.{getD}
-use Rattle.profile.proofs.Laws.{cond-case, by-cases, and-right}
+use lib.ListN.{length, getD, take, set}
+use lib.Seq.{take-suc-set}
+use Rattle.profile.proofs.Laws.{cond-case, by-cases, chunks-more}
+use Rattle.profile.specs.Lists.{chunks}
 use Rattle.profile.specs.Patterns.{rowOf, used}
 use Rattle.profile.specs.declared.Mode.{Mode}
 use Rattle.profile.specs.declared.Mode.the-variants.{Plain, Multiplier}
 use Rattle.profile.specs.declared.Pattern.{Pattern}
-use Rattle.level.specs.Word.{bit, flipped, within, flips, startLevel, runLevel, timesLevel, secondLevel, six}
+use Rattle.level.specs.declared.Line.{Line}
+use Rattle.level.specs.Word.{
+  bit,
+  flipped,
+  within,
+  flips,
+  startLevel,
+  runLevel,
+  timesLevel,
+  firstLevel,
+  secondLevel,
+  unmasked,
+  shownAt,
+  six,
+  vWord,
+  wordOf,
+}
+use Rattle.level.specs.Ready.{firstWord, secondWord, othersWord}
 use Rattle.level.specs.Count.{runCount, keyOf, countTo, timesCount, upTo, passed, rowsOf, keysOf, sixAt}
 
 -- ---- choices
@@ -292,3 +311,36 @@ span-none level from to p h =
     by-cases (leb from p)
     (λ e. rw (e, le-ltb p to (omega (arith, leb-true from p e))) (omega arith))
     (λ e. rw e (omega arith))
+
+-- ---- the word
+
+-- a choice for each output is a choice of the word
+six-cond : (b : Bool) (f g : ℕ → ℕ) → cond b (six f) (six g) ≡ six (λ k. cond b (f k) (g k))
+six-cond true f g = refl
+six-cond false f g = refl
+
+-- V1 to V6, by what the two patterns made ready say
+pub unmasked-word : (l : Line) (q : ℕ) {acts : Bool} {length second first : ℕ} → acts ≡ l .double → length ≡ l .second .length
+    → second ≡ secondWord (l .second) q → first ≡ firstWord (l .mode) (l .pattern) (l .start) (l .origin) (l .repetitions) q
+    → cond (acts && leb length q) second first ≡ six (λ k. unmasked l k q)
+unfolding firstWord secondWord
+unmasked-word l q acts length second first =
+    (λ i. cond (acts i && leb (length i) q) (second i) (first i))
+    ∙ six-cond (l .double && leb (l .second .length) q) (λ k. secondLevel (l .second) k q)
+    (λ k. firstLevel (l .mode) (l .pattern) (l .start) (l .origin) (l .repetitions) k q)
+
+-- the two parts of the word
+pub two-parts : (l : Line) (p : ℕ)
+    → six (λ k. unmasked l k (shownAt (l .mask1) (l .mask2) p)) + othersWord (l .gates) (l .subck) (l .mshut) (l .strobe) p * 64
+    ≡ wordOf l p
+unfolding wordOf vWord othersWord
+two-parts l p = omega arith
+
+-- one word more, from a pixel on
+pub filled-more : (f : ℕ → ℕ) (out : List ℕ) (i w : ℕ) → i < length out → take i out ≡ chunks i (λ k. f k ∷ []) → w ≡ f i
+    → take (i + 1) (set out i w) ≡ chunks (i + 1) (λ k. f k ∷ [])
+filled-more f out i w h g e =
+    ap (λ n. take n (set out i w)) (add-one i)
+    ∙ take-suc-set out i w h
+    ∙ (λ j. g j ++ (e j ∷ []))
+    ∙ sym (chunks-more i (λ k. f k ∷ []))

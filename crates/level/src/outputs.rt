@@ -6,7 +6,6 @@ use crate::Pulse;
 use crate::Span;
 use profile::Mode;
 use profile::Pattern;
-
 ghost use Prim.Native.Nat.{ℕ, _+_, _-_, _*_, _^_, _≤_, _<_};
 ghost use mathlib.Core.Path.{_≡_};
 ghost use mathlib.Core.List.{[], _∷_};
