@@ -248,15 +248,22 @@ fn holds(m: Mask, p: u64) -> bool
     false
 }
 
+// The pixel whose levels a mask holds.
+fn held_pixel(m: Mask) -> u64
+    ensures { λ r. ⌜ r ≡ m .freeze ⌝ }
+{
+    m.freeze as u64
+}
+
 // The pixel whose unmasked levels show.
 fn shown(a: Mask, b: Mask, p: u64) -> u64
     ensures { λ r. ⌜ r ≡ shownAt a b p ⌝ }
 {
     if holds(a, p) {
-        return a.freeze as u64;
+        return held_pixel(a);
     }
     if holds(b, p) {
-        return b.freeze as u64;
+        return held_pixel(b);
     }
     p
 }

@@ -6,32 +6,37 @@ use Rattle.level.proofs.outputs.shown.Tie as tie
 holds-requires : tie.Need-holds-requires
 holds-requires c κs = search needs
 
-cast-result : tie.Need-cast-result
-cast-result c = search needs
+held-pixel-requires : tie.Need-held-pixel-requires
+held-pixel-requires c κs = search needs
 
 returns : tie.Need-returns
-returns c = simp (sym (c .before .before .holds .ensures) ∙ c .before .if1 .taken)
+returns c = rw (sym (c .before .before .holds .ensures) ∙ c .before .if1 .taken) (c .held-pixel .ensures)
 
 holds-requires-2 : tie.Need-holds-requires-2
 holds-requires-2 c κs = search needs
 
-cast-result-2 : tie.Need-cast-result-2
-cast-result-2 c = search needs
+held-pixel-requires-2 : tie.Need-held-pixel-requires-2
+held-pixel-requires-2 c κs = search needs
 
 returns-2 : tie.Need-returns-2
-returns-2 c = simp (sym (c .before .before .before .before .holds .ensures) ∙ c .before .before .before .if1 .left, sym (c .before .before .holds2 .ensures) ∙ c .before .if2 .taken)
+returns-2 c =
+    let h = c .before .before in
+    rw (sym (h .before .before .holds .ensures) ∙ h .before .if1 .left, sym (h .holds2 .ensures) ∙ c .before .if2 .taken)
+    (c .held-pixel2 .ensures)
 
 returns-3 : tie.Need-returns-3
-returns-3 c = simp (sym (c .before .before .before .holds .ensures) ∙ c .before .before .if1 .left, sym (c .before .holds2 .ensures) ∙ c .if2 .left)
+returns-3 c =
+    let h = c .before in
+    rw (sym (h .before .before .holds .ensures) ∙ h .before .if1 .left, sym (h .holds2 .ensures) ∙ c .if2 .left)
 
 pub shown-spec : {M : Type 1} → statement M
 shown-spec =
     tie.close
     (tie.spec
     holds-requires
-    cast-result
+    held-pixel-requires
     returns
     holds-requires-2
-    cast-result-2
+    held-pixel-requires-2
     returns-2
     returns-3)
