@@ -122,7 +122,7 @@ used-key m x small ne =
 key-toggle : (m x : ℕ) → x < 65536 → ltb (keyOf x) (countTo m) ≡ not (eqb x 4095) && leb x m
 key-toggle m x small =
     by-cases (eqb x 4095)
-    (λ e. rw (e, le-ltb x 4095 (omega (arith, eqb-true x 4095 e))) (le-ltb 65535 (countTo m) (count-small m)))
+    (λ e. rw e (le-ltb 65535 (countTo m) (count-small m)))
     (λ e. rw e (used-key m x small (eqb-false x 4095 e)))
 
 -- ---- one output: its three keys, each by the same law, and its level

@@ -14,7 +14,7 @@ runCount start length r q = cond (ltb q start) 0 (cond (ltb (q - start) (r * len
 
 -- multiplier and second pattern: 4095 is unused, so its key is the highest number, and the toggles above it move down by one
 abbrev pub keyOf : ℕ → ℕ
-keyOf x = cond (ltb x 4095) x (cond (eqb x 4095) 65535 (x - 1))
+keyOf x = cond (eqb x 4095) 65535 (cond (ltb x 4095) x (x - 1))
 
 -- the count that passes the used toggles up to m
 abbrev pub countTo : ℕ → ℕ

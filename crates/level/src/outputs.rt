@@ -342,11 +342,11 @@ fn word_at(r: Ready, p: u64) -> u16
 fn key(x: u16) -> u16
     ensures { λ r. ⌜ r ≡ keyOf x ⌝ }
 {
-    if x < 4095 {
-        return x;
-    }
     if x == 4095 {
         return 65535;
+    }
+    if x < 4095 {
+        return x;
     }
     x - 1
 }
