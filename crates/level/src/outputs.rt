@@ -188,6 +188,7 @@ fn count(f: First, p: u64) -> u16
     run(f.start, f.length, f.repetitions, q)
 }
 
+// V1 to V6 by the first pattern.
 fn first_at(f: First, p: u64) -> u16
     ensures { λ r. ⌜ r ≡ firstAt f p ⌝ }
     ensures { λ r. ⌜ r < 64 ⌝ }
@@ -196,6 +197,7 @@ fn first_at(f: First, p: u64) -> u16
     six(f.levels, rows(keys), count(f, p))
 }
 
+// V1 to V6 by the second pattern.
 fn second_at(s: Second, p: u64) -> u16
     requires { ⌜ s .length ≤ p ⌝ }
     ensures { λ r. ⌜ r ≡ secondAt s p ⌝ }
@@ -228,6 +230,7 @@ fn unmasked_at(r: Ready, p: u64) -> u16
     first_at(f, p)
 }
 
+// Whether a pixel is at or after one place and before another.
 fn inside(from: u16, to: u16, p: u64) -> bool
     ensures { λ r. ⌜ r ≡ within from to p ⌝ }
 {
@@ -239,6 +242,7 @@ fn inside(from: u16, to: u16, p: u64) -> bool
     p < b
 }
 
+// Whether a mask holds its outputs at a pixel.
 fn holds(m: Mask, p: u64) -> bool
     ensures { λ r. ⌜ r ≡ frozen m p ⌝ }
 {
@@ -276,6 +280,7 @@ fn reached(x: u16, p: u16) -> u16
     if x <= p { 1 } else { 0 }
 }
 
+// The level of one output with two edges.
 fn edges_at(e: Edges, p: u16) -> u16
     ensures { λ r. ⌜ r ≡ edgesAt e p ⌝ }
     ensures { λ r. ⌜ r < 2 ⌝ }
@@ -319,6 +324,7 @@ fn line_pixel(p: u64) -> u16
     65535
 }
 
+// The two parts of a word.
 fn join(v: u16, e: u16) -> u16
     requires { ⌜ (v < 64) × (e < 256) ⌝ }
     ensures { λ r. ⌜ r ≡ v + e * 64 ⌝ }
@@ -338,7 +344,7 @@ fn word_at(r: Ready, p: u64) -> u16
     join(v, eight(t, line_pixel(p)))
 }
 
-// The key of a toggle of which 4095 is unused.
+// The key of a toggle where 4095 is unused: the highest number, and the toggles above it move down by one.
 fn key(x: u16) -> u16
     ensures { λ r. ⌜ r ≡ keyOf x ⌝ }
 {
@@ -351,6 +357,7 @@ fn key(x: u16) -> u16
     x - 1
 }
 
+// The keys of 18 toggles.
 fn keys_of(t: [u16; 18]) -> [u16; 18]
     ensures { λ r. ⌜ r ≡ keysOf t ⌝ }
 {
@@ -471,6 +478,7 @@ fn span_edges(s: Span) -> Edges
     }
 }
 
+// VSG1 to VSG5, SUBCK, MSHUT and STROBE made ready.
 fn others_of(gates: [Pulse; 5], subck: Pulse, mshut: Span, strobe: Span) -> [Edges; 8]
     ensures { λ t. ⌜ ((p : ℕ) → eightAt t (upTo 65535 p) ≡ othersWord gates subck mshut strobe p) ⌝ }
 {

@@ -1,3 +1,5 @@
+-- A second pattern that acts has begun from its length on.
+-- Assumes nothing.
 use borrow.Author.Needs.{needs}
 use Rattle.level.proofs.outputs.begun.Statement.{statement}
 use Rattle.level.proofs.outputs.begun.Tie as tie

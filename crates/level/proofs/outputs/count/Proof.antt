@@ -1,8 +1,10 @@
-use Rattle.level.proofs.Counting.{run-far, times-far}
-use Rattle.level.specs.Ready.{firstCount}
-use Rattle.level.specs.Count.{runCount, timesCount}
+-- The count at the region's pixel held to 32 bits is that at the pixel itself.
+-- Assumes nothing.
 use mathlib.Core.Path.{_∙_, ap}
 use borrow.Author.Needs.{needs}
+use Rattle.level.specs.Ready.{firstCount}
+use Rattle.level.specs.Count.{runCount, timesCount}
+use Rattle.level.proofs.Counting.{run-far, times-far}
 use Rattle.level.proofs.outputs.count.Statement.{statement}
 use Rattle.level.proofs.outputs.count.Tie as tie
 

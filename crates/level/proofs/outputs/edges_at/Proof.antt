@@ -1,3 +1,5 @@
+-- A level flipped once for each edge reached.
+-- Assumes nothing.
 use native.Mathlib.Omega.{arith}
 use borrow.Author.Needs.{needs}
 use Rattle.level.proofs.outputs.edges_at.Statement.{statement}

@@ -1,12 +1,14 @@
-use Rattle.level.specs.Ready.{readyWord}
-use Rattle.level.specs.Fieldwords.{lineWords}
-use Rattle.level.specs.Word.{wordOf}
-use Rattle.profile.proofs.Laws.{chunks-ext}
-use native.Mathlib.Nat.{zero-add}
+-- The words from pixel 0 on, each the line's.
+-- Assumes nothing.
 use Prim.Native.Nat.{_+_}
 use mathlib.Core.List.{[], _∷_}
 use mathlib.Core.Path.{_∙_, ap}
+use native.Mathlib.Nat.{zero-add}
 use borrow.Author.Needs.{needs}
+use Rattle.profile.proofs.Laws.{chunks-ext}
+use Rattle.level.specs.Ready.{readyWord}
+use Rattle.level.specs.Fieldwords.{lineWords}
+use Rattle.level.specs.Word.{wordOf}
 use Rattle.level.proofs.outputs.fill.Statement.{statement}
 use Rattle.level.proofs.outputs.fill.Tie as tie
 

@@ -1,7 +1,9 @@
-use Rattle.level.specs.Ready.{firstAt}
-use Rattle.level.specs.Count.{sixAt}
+-- The six levels at the first pattern's count.
+-- Assumes nothing.
 use mathlib.Core.Path.{_∙_, ap₂}
 use borrow.Author.Needs.{needs}
+use Rattle.level.specs.Ready.{firstAt}
+use Rattle.level.specs.Count.{sixAt}
 use Rattle.level.proofs.outputs.first_at.Statement.{statement}
 use Rattle.level.proofs.outputs.first_at.Tie as tie
 

@@ -1,7 +1,9 @@
-use Rattle.level.specs.Ready.{runWord, timesWord, firstWord}
-use native.Mathlib.Nat.{zero-add}
+-- By the mode; a run in plain has its origin at the line's first pixel.
+-- Assumes nothing.
 use mathlib.Core.Path.{_∙_, ap}
+use native.Mathlib.Nat.{zero-add}
 use borrow.Author.Needs.{needs}
+use Rattle.level.specs.Ready.{runWord, timesWord, firstWord}
 use Rattle.level.proofs.outputs.first_of.Statement.{statement}
 use Rattle.level.proofs.outputs.first_of.Tie as tie
 

@@ -1,3 +1,5 @@
+-- The branch decides the test.
+-- Assumes nothing.
 use native.Mathlib.Omega.{arith}
 use borrow.Author.Tests.{lt-ltb, le-ltb}
 use Rattle.level.proofs.outputs.hit.Statement.{statement}

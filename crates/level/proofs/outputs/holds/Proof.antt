@@ -1,3 +1,5 @@
+-- A mask that is on holds inside its pair.
+-- Assumes nothing.
 use borrow.Author.Needs.{needs}
 use Rattle.level.proofs.outputs.holds.Statement.{statement}
 use Rattle.level.proofs.outputs.holds.Tie as tie

@@ -1,3 +1,5 @@
+-- The first test decides one half of the definition, the second is the other.
+-- Assumes nothing.
 use borrow.Author.Tests.{le-leb, lt-leb}
 use Rattle.level.proofs.outputs.inside.Statement.{statement}
 use Rattle.level.proofs.outputs.inside.Tie as tie

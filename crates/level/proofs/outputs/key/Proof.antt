@@ -1,3 +1,5 @@
+-- Each branch decides a test of the definition.
+-- Assumes nothing.
 use borrow.Author.Tests.{lt-ltb, le-ltb, ne-eqb}
 use borrow.Author.Needs.{needs}
 use Rattle.level.proofs.outputs.key.Statement.{statement}

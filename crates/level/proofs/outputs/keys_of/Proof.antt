@@ -1,3 +1,5 @@
+-- Eighteen toggles, each with its key.
+-- Assumes nothing.
 use mathlib.Core.List.{[], _∷_}
 use borrow.Author.Needs.{needs}
 use Rattle.level.proofs.outputs.keys_of.Statement.{statement}

@@ -1,3 +1,5 @@
+-- The branch decides the test of the bound.
+-- Assumes nothing.
 use borrow.Author.Tests.{lt-ltb, le-ltb}
 use borrow.Author.Needs.{needs}
 use Rattle.level.proofs.outputs.line_pixel.Statement.{statement}

@@ -1,7 +1,9 @@
-use Rattle.level.specs.Ready.{othersWord}
-use Rattle.level.specs.Word.{gateWord}
+-- The eight outputs, each by its edges.
+-- Assumes nothing.
 use Prim.Native.Nat.{_+_, _*_}
 use borrow.Author.Needs.{needs}
+use Rattle.level.specs.Ready.{othersWord}
+use Rattle.level.specs.Word.{gateWord}
 use Rattle.level.proofs.outputs.others_of.Statement.{statement}
 use Rattle.level.proofs.outputs.others_of.Tie as tie
 

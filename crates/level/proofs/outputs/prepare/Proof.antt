@@ -1,9 +1,11 @@
-use Rattle.level.proofs.Counting.{unmasked-word, two-parts}
-use Rattle.level.specs.Ready.{unmaskedAt, readyWord}
-use Rattle.level.specs.Word.{shownAt}
+-- The word by its two parts, each by what the parts made ready say.
+-- Assumes nothing.
 use Prim.Native.Nat.{_+_, _*_}
 use mathlib.Core.Path.{_∙_, ap₂}
 use borrow.Author.Needs.{needs}
+use Rattle.level.specs.Ready.{unmaskedAt, readyWord}
+use Rattle.level.specs.Word.{shownAt}
+use Rattle.level.proofs.Counting.{unmasked-word, two-parts}
 use Rattle.level.proofs.outputs.prepare.Statement.{statement}
 use Rattle.level.proofs.outputs.prepare.Tie as tie
 

@@ -1,7 +1,8 @@
+-- Where a pulse acts its edges are its toggles; else two edges at 0 leave its level.
+-- Assumes nothing.
+use borrow.Author.Needs.{needs}
 use Rattle.level.specs.Count.{upTo}
 use Rattle.level.proofs.Counting.{edges-act, edges-rest}
-use borrow.Author.Needs.{needs}
-use mathlib.Core.Path.{_∙_}
 use Rattle.level.proofs.outputs.pulse_edges.Statement.{statement}
 use Rattle.level.proofs.outputs.pulse_edges.Tie as tie
 

@@ -1,3 +1,5 @@
+-- The branch decides the test.
+-- Assumes nothing.
 use native.Mathlib.Omega.{arith}
 use borrow.Author.Tests.{le-leb, lt-leb}
 use Rattle.level.proofs.outputs.reached.Statement.{statement}

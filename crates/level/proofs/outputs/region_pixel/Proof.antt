@@ -1,5 +1,6 @@
+-- A sum that is not formed, since the pixel alone is past the bound, is past it too.
+-- Assumes nothing.
 use Prim.Native.Nat.{_+_}
-use mathlib.Core.Path.{_∙_}
 use native.Mathlib.Omega.{arith}
 use borrow.Author.Tests.{lt-ltb, le-ltb}
 use borrow.Author.Needs.{needs}

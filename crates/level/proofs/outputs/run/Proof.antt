@@ -1,9 +1,11 @@
-use Rattle.level.proofs.Counting.{run-has-length}
-use borrow.Author.Tests.{lt-ltb, le-ltb}
+-- A run that goes on has a length, so t mod length is below it; each branch decides a test of the definition.
+-- Assumes nothing.
 use Prim.Native.Nat.{_*_, _-_}
 use native.Mathlib.Nat.{mod-lt}
 use native.Mathlib.Omega.{arith}
+use borrow.Author.Tests.{lt-ltb, le-ltb}
 use borrow.Author.Needs.{needs}
+use Rattle.level.proofs.Counting.{run-has-length}
 use Rattle.level.proofs.outputs.run.Statement.{statement}
 use Rattle.level.proofs.outputs.run.Tie as tie
 

@@ -1,10 +1,12 @@
-use Rattle.level.proofs.Counting.{Small, run-word}
-use Rattle.level.specs.Ready.{runWord, firstAt, firstCount}
+-- With toggles as keys and t mod length as count the levels are those of a run.
+-- Assumes nothing.
+use Prim.Native.Nat.{_+_}
+use borrow.Author.Needs.{needs}
 use lib.ListN.{getD}
 use mir.Syntax.{w16}
 use mir.Val.{Fits}
-use borrow.Author.Needs.{needs}
-use Prim.Native.Nat.{_+_}
+use Rattle.level.specs.Ready.{runWord, firstAt, firstCount}
+use Rattle.level.proofs.Counting.{Small, run-word}
 use Rattle.level.proofs.outputs.run_first.Statement.{statement}
 use Rattle.level.proofs.outputs.run_first.Tie as tie
 

@@ -1,6 +1,8 @@
-use Rattle.level.proofs.Counting.{product16}
+-- A product of two numbers of 16 bits fits 32.
+-- Assumes nothing.
 use native.Mathlib.Omega.{arith}
 use borrow.Author.Needs.{needs}
+use Rattle.level.proofs.Counting.{product16}
 use Rattle.level.proofs.outputs.run_length.Statement.{statement}
 use Rattle.level.proofs.outputs.run_length.Tie as tie
 

@@ -1,12 +1,14 @@
-use Rattle.level.proofs.Counting.{Small, second-word}
-use Rattle.level.specs.Ready.{secondWord, secondAt}
-use Rattle.level.specs.Count.{countTo, rowsOf, sixAt}
-use lib.ListN.{getD}
-use mir.Syntax.{w16}
-use mir.Val.{Fits}
+-- With keys and the pixels since its length as count the levels are those of the second pattern.
+-- Assumes nothing.
 use Prim.Native.Nat.{_-_}
 use mathlib.Core.Path.{_∙_, ap, refl}
 use borrow.Author.Needs.{needs}
+use lib.ListN.{getD}
+use mir.Syntax.{w16}
+use mir.Val.{Fits}
+use Rattle.level.specs.Ready.{secondWord, secondAt}
+use Rattle.level.specs.Count.{countTo, rowsOf, sixAt}
+use Rattle.level.proofs.Counting.{Small, second-word}
 use Rattle.level.proofs.outputs.second_of.Statement.{statement}
 use Rattle.level.proofs.outputs.second_of.Tie as tie
 

@@ -1,3 +1,5 @@
+-- Both tests are the definition's, over what `holds` answers.
+-- Assumes nothing.
 use mathlib.Core.Path.{_∙_, sym}
 use borrow.Author.Needs.{needs}
 use Rattle.level.proofs.outputs.shown.Statement.{statement}

@@ -1,8 +1,10 @@
-use Rattle.level.specs.Count.{upTo}
-use Rattle.level.proofs.Counting.{edges-act, edges-rest, span-turns, span-none}
+-- Edges at both ends of a span turn the level over inside it; a span that ends before it starts is empty.
+-- Assumes nothing.
 use Prim.Native.Nat.{_+_, _%_}
 use mathlib.Core.Path.{_∙_}
 use borrow.Author.Needs.{needs}
+use Rattle.level.specs.Count.{upTo}
+use Rattle.level.proofs.Counting.{edges-act, edges-rest, span-turns, span-none}
 use Rattle.level.proofs.outputs.span_edges.Statement.{statement}
 use Rattle.level.proofs.outputs.span_edges.Tie as tie
 

@@ -1,12 +1,14 @@
-use Rattle.level.proofs.Counting.{Small, times-word}
-use Rattle.level.specs.Ready.{timesWord, firstAt, firstCount}
-use Rattle.level.specs.Count.{timesCount, rowsOf, sixAt}
-use lib.ListN.{getD}
-use mir.Syntax.{w16}
-use mir.Val.{Fits}
+-- With keys and t / length as count the levels are those of multiplier.
+-- Assumes nothing.
 use Prim.Native.Nat.{_+_}
 use mathlib.Core.Path.{_∙_, ap}
 use borrow.Author.Needs.{needs}
+use lib.ListN.{getD}
+use mir.Syntax.{w16}
+use mir.Val.{Fits}
+use Rattle.level.specs.Ready.{timesWord, firstAt, firstCount}
+use Rattle.level.specs.Count.{timesCount, rowsOf, sixAt}
+use Rattle.level.proofs.Counting.{Small, times-word}
 use Rattle.level.proofs.outputs.times_first.Statement.{statement}
 use Rattle.level.proofs.outputs.times_first.Tie as tie
 

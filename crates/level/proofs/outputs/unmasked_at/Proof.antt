@@ -1,8 +1,10 @@
-use Rattle.level.specs.Ready.{unmaskedAt}
-use Rattle.profile.proofs.Laws.{and-right}
-use borrow.Author.Tests.{leb-true}
+-- Where the second pattern has begun, the pixel is at or past its length.
+-- Assumes nothing.
 use mathlib.Core.Path.{_∙_, sym}
+use borrow.Author.Tests.{leb-true}
 use borrow.Author.Needs.{needs}
+use Rattle.profile.proofs.Laws.{and-right}
+use Rattle.level.specs.Ready.{unmaskedAt}
 use Rattle.level.proofs.outputs.unmasked_at.Statement.{statement}
 use Rattle.level.proofs.outputs.unmasked_at.Tie as tie
 

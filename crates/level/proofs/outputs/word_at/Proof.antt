@@ -1,7 +1,9 @@
-use Rattle.level.specs.Ready.{unmaskedAt, eightAt, readyWord}
+-- The two parts of the word, at the pixel that shows and at the pixel itself.
+-- Assumes nothing.
 use Prim.Native.Nat.{_+_, _*_}
 use mathlib.Core.Path.{_∙_, ap, ap₂}
 use borrow.Author.Needs.{needs}
+use Rattle.level.specs.Ready.{unmaskedAt, eightAt, readyWord}
 use Rattle.level.proofs.outputs.word_at.Statement.{statement}
 use Rattle.level.proofs.outputs.word_at.Tie as tie
 

@@ -1,11 +1,13 @@
-use native.Mathlib.Omega.{arith}
-use Rattle.level.specs.Ready.{readyWord}
-use Rattle.profile.proofs.Laws.{getD-ones}
-use lib.ListN.{getD}
-use native.Mathlib.Nat.{add-zero}
+-- The one word from the pixel on.
+-- Assumes nothing.
 use Prim.Native.Nat.{_+_}
 use mathlib.Core.Path.{_∙_, ap}
+use native.Mathlib.Omega.{arith}
+use native.Mathlib.Nat.{add-zero}
 use borrow.Author.Needs.{needs}
+use lib.ListN.{getD}
+use Rattle.profile.proofs.Laws.{getD-ones}
+use Rattle.level.specs.Ready.{readyWord}
 use Rattle.level.proofs.outputs.word_of.Statement.{statement}
 use Rattle.level.proofs.outputs.word_of.Tie as tie
 

@@ -1,14 +1,16 @@
-use Rattle.level.proofs.Counting.{filled-more}
-use Rattle.level.specs.Ready.{readyWord}
-use Rattle.profile.proofs.Laws.{chunks-none}
-use Rattle.profile.specs.Lists.{chunks}
-use lib.Seq.{take-all}
-use lib.ListN.{length, take, length-set}
-use native.Mathlib.Omega.{arith}
-use borrow.Author.Needs.{needs}
+-- The loop has written the words of the pixels that it passed.
+-- Assumes nothing.
 use Prim.Native.Nat.{_+_, _-_, _≤_}
 use mathlib.Core.List.{[], _∷_}
 use mathlib.Core.Path.{_≡_, _∙_, sym, ap}
+use native.Mathlib.Omega.{arith}
+use borrow.Author.Needs.{needs}
+use lib.Seq.{take-all}
+use lib.ListN.{length, take, length-set}
+use Rattle.profile.proofs.Laws.{chunks-none}
+use Rattle.profile.specs.Lists.{chunks}
+use Rattle.level.specs.Ready.{readyWord}
+use Rattle.level.proofs.Counting.{filled-more}
 use Rattle.level.proofs.outputs.words.Statement.{statement}
 use Rattle.level.proofs.outputs.words.Tie as tie
 
