@@ -1,0 +1,346 @@
+-- Counting flips by keys and counts gives the levels of the rules, and edges give the levels of gates, SUBCK and shutters.
+-- Assumes nothing.
+use mathlib.Core.Path.{_≡_, refl, sym, ap, _∙_}
+use mathlib.Core.Bool.{Bool, true, false, cond, not, _&&_}
+use mathlib.Core.List.{List, [], _∷_, _++_}
+use Prim.Native.Nat.{ℕ, zero, suc, _+_, _-_, _*_, _/_, _%_, _≤_, _<_}
+use native.Mathlib.Nat.{le-div-iff-mul-le, mod-lt, mul-le-mul, mul-zero, div-one}
+use native.Mathlib.Numerals.{add-one}
+use native.Mathlib.Omega.{arith}
+use borrow.Author.Tests.{ltb-true, ltb-false, leb-true, leb-false, lt-ltb, le-ltb, le-leb, lt-leb, eqb-true, eqb-false}
+use lib.Dec.{ltb, leb, eqb}
+use lib.ListN.{length, getD, take, set}
+use lib.Seq.{take-suc-set}
+use Rattle.profile.proofs.Laws.{cond-case, by-cases, chunks-more}
+use Rattle.profile.specs.Lists.{chunks}
+use Rattle.profile.specs.Patterns.{rowOf, used}
+use Rattle.profile.specs.declared.Mode.{Mode}
+use Rattle.profile.specs.declared.Mode.the-variants.{Plain, Multiplier}
+use Rattle.profile.specs.declared.Pattern.{Pattern}
+use Rattle.level.specs.declared.Line.{Line}
+use Rattle.level.specs.Word.{
+  bit,
+  flipped,
+  within,
+  flips,
+  startLevel,
+  runLevel,
+  timesLevel,
+  firstLevel,
+  secondLevel,
+  unmasked,
+  shownAt,
+  six,
+  vWord,
+  wordOf,
+}
+use Rattle.level.specs.Ready.{firstWord, secondWord, othersWord}
+use Rattle.level.specs.Count.{runCount, keyOf, countTo, timesCount, upTo, passed, rowsOf, keysOf, sixAt}
+
+-- ---- choices
+
+-- a function of a choice
+pub push : {A B : Type 0} (F : A → B) (b : Bool) (u v : A) → F (cond b u v) ≡ cond b (F u) (F v)
+push F true u v = refl
+push F false u v = refl
+
+-- two choices by one test
+pub by-test : {A : Type 0} (b : Bool) {u v u′ v′ : A} → (b ≡ true → u ≡ u′) → (b ≡ false → v ≡ v′) → cond b u v ≡ cond b u′ v′
+by-test true f g = f refl
+by-test false f g = g refl
+
+-- two orders that follow from each other are one test
+leb-iff : (a b c d : ℕ) → (a ≤ b → c ≤ d) → (c ≤ d → a ≤ b) → leb a b ≡ leb c d
+leb-iff a b c d f g =
+    by-cases (leb a b)
+    (λ e. e ∙ sym (le-leb c d (f (leb-true a b e))))
+    (λ e.
+    by-cases (leb c d)
+    (λ h. let x = leb-false a b e in absurd (omega (arith, g (leb-true c d h))))
+    (λ h. e ∙ sym h))
+
+-- ---- products of two numbers of 16 bits
+
+pub product16 : (a b : ℕ) → a < 65536 → b < 65536 → a * b ≤ 4294836225
+product16 a b h k = mul-le-mul {n₁ = a} {m₁ = b} {n₂ = 65535} {m₂ = 65535} (omega arith) (omega arith)
+
+-- a run that goes on has a length
+pub run-has-length : (r length t : ℕ) → t < r * length → 0 < length
+run-has-length r zero t h = absurd (omega (arith, mul-zero r))
+run-has-length r (suc n) t h = omega arith
+
+-- ---- one toggle: its key is below the count where it is used and passed
+
+ltb-iff : (a b c d : ℕ) → (a < b → c ≤ d) → (c ≤ d → a < b) → ltb a b ≡ leb c d
+ltb-iff a b c d f g =
+    by-cases (leb c d)
+    (λ e. lt-ltb a b (g (leb-true c d e)) ∙ sym e)
+    (λ e.
+    by-cases (ltb a b)
+    (λ h. let x = leb-false c d e in absurd (omega (arith, f (ltb-true a b h))))
+    (λ h. h ∙ sym e))
+
+-- plain and sweep: u is t mod length
+run-toggle : (length u x : ℕ) → u < length → ltb x (u + 1) ≡ used Plain length x && leb (x * 1) u
+run-toggle length u x h =
+    by-cases (ltb x length)
+    (λ e. rw e (ltb-iff x (u + 1) (x * 1) u (λ g. omega arith) (λ g. omega arith)))
+    (λ e. let y = ltb-false x length e in rw e (le-ltb x (u + 1) (omega arith)))
+
+-- no count passes the key of an unused toggle
+count-small : (m : ℕ) → countTo m ≤ 65535
+count-small m =
+    cond-case (λ n. n ≤ 65535) (ltb m 4095) _ _ (λ e. omega (arith, ltb-true m 4095 e))
+    (λ e. cond-case (λ n. n ≤ 65535) (ltb m 65535) _ _ (λ g. omega (arith, ltb-true m 65535 g)) (λ g. omega arith))
+
+-- from 65535 on all are passed
+count-top : (m : ℕ) → 65535 ≤ m → countTo m ≡ 65535
+count-top m h = rw (le-ltb m 4095 (omega arith), le-ltb m 65535 h)
+
+-- a used toggle's key
+used-key : (m x : ℕ) → x < 65536 → (x ≡ 4095 → ⊥) → ltb (cond (ltb x 4095) x (x - 1)) (countTo m) ≡ leb x m
+used-key m x small ne =
+    cond-case (λ k. ltb k (countTo m) ≡ leb x m) (ltb x 4095) x (x - 1)
+    (λ a.
+    let xa = ltb-true x 4095 a in
+    cond-case (λ n. ltb x n ≡ leb x m) (ltb m 4095) _ _ (λ b. ltb-iff x (m + 1) x m (λ g. omega arith) (λ g. omega arith))
+    (λ b.
+    let mb = ltb-false m 4095 b in
+    cond-case (λ n. ltb x n ≡ leb x m) (ltb m 65535) m 65535
+    (λ d. ltb-iff x m x m (λ g. omega arith) (λ g. omega arith))
+    (λ d. ltb-iff x 65535 x m (λ g. omega arith) (λ g. omega arith))))
+    (λ a.
+    let xa = ltb-false x 4095 a in
+    cond-case (λ n. ltb (x - 1) n ≡ leb x m) (ltb m 4095) _ _
+    (λ b. let mb = ltb-true m 4095 b in ltb-iff (x - 1) (m + 1) x m (λ g. absurd (omega arith)) (λ g. absurd (omega arith)))
+    (λ b.
+    cond-case (λ n. ltb (x - 1) n ≡ leb x m) (ltb m 65535) m 65535
+    (λ d. ltb-iff (x - 1) m x m (λ g. omega arith) (λ g. omega arith))
+    (λ d. let md = ltb-false m 65535 d in ltb-iff (x - 1) 65535 x m (λ g. omega arith) (λ g. omega arith))))
+
+-- multiplier and second pattern: the toggles up to m
+key-toggle : (m x : ℕ) → x < 65536 → ltb (keyOf x) (countTo m) ≡ not (eqb x 4095) && leb x m
+key-toggle m x small =
+    by-cases (eqb x 4095)
+    (λ e. rw e (le-ltb 65535 (countTo m) (count-small m)))
+    (λ e. rw e (used-key m x small (eqb-false x 4095 e)))
+
+-- ---- one output: its three keys, each by the same law, and its level
+
+-- the rows of toggles and of keys
+abbrev keyRow : (ℕ → ℕ) → Pattern → ℕ → List ℕ
+keyRow key a k =
+    key (getD (a .toggles) (3 * k) 0) ∷ key (getD (a .toggles) (3 * k + 1) 0) ∷ key (getD (a .toggles) (3 * k + 2) 0) ∷ []
+
+-- toggles of 16 bits
+abbrev pub Small : List ℕ → Type 0
+Small l = (i : ℕ) → getD l i 0 < 65536
+
+counted : (key : ℕ → ℕ) (m : Mode) (n length scale t : ℕ) (a : Pattern) (k : ℕ) → Small (a .toggles)
+    → ((x : ℕ) → x < 65536 → ltb (key x) n ≡ used m length x && leb (x * scale) t)
+    → passed n (keyRow key a k) ≡ flips m length scale (rowOf a k) t
+counted key m n length scale t a k small law =
+    λ i. bit (one (3 * k) i) + bit (one (3 * k + 1) i) + bit (one (3 * k + 2) i)
+  where
+    one : (j : ℕ) → ltb (key (getD (a .toggles) j 0)) n ≡ used m length (getD (a .toggles) j 0) && leb (getD (a .toggles) j 0 * scale) t
+    one j = law (getD (a .toggles) j 0) (small j)
+
+-- nothing is passed by the count 0
+still : (x : ℕ) (keys : List ℕ) → flipped x (passed 0 keys) ≡ x % 2
+still x keys = simp none (omega arith)
+  where
+    none : (y : ℕ) → ltb y 0 ≡ false
+    none y = le-ltb y 0 (omega arith)
+
+low-bit : (x n : ℕ) → flipped x n ≡ flipped (x % 2) n
+low-bit x n = omega arith
+
+-- ---- a region's pixel held to 32 bits: at its end every run is over and every toggle passed
+
+pub run-far : (start length r q : ℕ) → start < 65536 → length < 65536 → r < 65536
+    → runCount start length r (upTo 4294967295 q) ≡ runCount start length r q
+run-far start length r q hs hl hr =
+    by-cases (ltb q 4294967295)
+    (λ e. rw e)
+    (λ e.
+    let far = ltb-false q 4294967295 e in
+    let all = product16 r length hr hl in
+    rw e (over 4294967295 (omega arith) (omega arith) ∙ sym (over q (omega arith) (omega arith))))
+  where
+    over : (q : ℕ) → start ≤ q → r * length ≤ q - start → runCount start length r q ≡ 0
+    over q g h = rw (le-ltb q start g, le-ltb (q - start) (r * length) h)
+
+pub times-far : (start length q : ℕ) → start < 65536 → length < 65536
+    → timesCount start length (upTo 4294967295 q) ≡ timesCount start length q
+times-far start length q hs hl =
+    by-cases (ltb q 4294967295)
+    (λ e. rw e)
+    (λ e.
+    let far = ltb-false q 4294967295 e in
+    rw e (over 4294967295 (omega arith) ∙ sym (over q far)))
+  where
+    over : (q : ℕ) → 4294967295 ≤ q → timesCount start length q ≡ 65535
+    over q g =
+        by-cases (eqb length 0)
+        (λ z. rw (le-ltb q start (omega arith), z))
+        (λ z.
+        let pos : 0 < length = omega (arith, eqb-false length 0 z) in
+        let all = product16 65535 length (omega arith) hl in
+        rw (le-ltb q start (omega arith), z) (count-top ((q - start) / length) (le-div-iff-mul-le pos .1 (omega arith))))
+
+-- ---- the three kinds of counts, for output k of a pattern, from a level x whose low bit is its start level
+
+abbrev runAt : Pattern → ℕ → ℕ → ℕ → ℕ → List ℕ → ℕ
+runAt a start r q y row =
+    cond (ltb q start) y
+    (cond (ltb (q - start) (r * a .length)) (flipped y (flips Plain (a .length) 1 row ((q - start) % a .length))) y)
+
+abbrev timesAt : Pattern → ℕ → ℕ → ℕ → List ℕ → ℕ
+timesAt a start q y row = cond (ltb q start) y (flipped y (flips Multiplier (a .length) (a .length) row (q - start)))
+
+abbrev lateAt : Pattern → ℕ → ℕ → List ℕ → ℕ
+lateAt a p y row = flipped y (flips Multiplier (a .length) 1 row (p - a .length))
+
+module _ (a : Pattern) (small : Small (a .toggles)) where
+  run-out : (start r q x k : ℕ)
+      → flipped x (passed (runCount start (a .length) r q) (keyRow (λ y. y) a k)) ≡ runAt a start r q (x % 2) (rowOf a k)
+  run-out start r q x k =
+      push F (ltb q start) _ _
+      ∙ by-test (ltb q start) (λ e. still x (rowOf a k))
+      (λ e.
+      push F (ltb (q - start) (r * a .length)) _ _
+      ∙ by-test (ltb (q - start) (r * a .length))
+      (λ h.
+      let pos = run-has-length r (a .length) (q - start) (ltb-true (q - start) (r * a .length) h) in
+      low-bit x _
+      ∙ ap (flipped (x % 2))
+      (counted (λ y. y) Plain ((q - start) % a .length + 1) (a .length) 1 ((q - start) % a .length) a k small
+      (λ y l. run-toggle (a .length) ((q - start) % a .length) y (mod-lt (q - start) pos))))
+      (λ h. still x (rowOf a k)))
+    where
+      F : ℕ → ℕ
+      F n = flipped x (passed n (rowOf a k))
+
+  -- the toggles up to m are those whose multiple is at or below t
+  key-out : (m scale t x k : ℕ) → ((y : ℕ) → y < 65536 → leb y m ≡ leb (y * scale) t)
+      → flipped x (passed (countTo m) (keyRow keyOf a k)) ≡ flipped (x % 2) (flips Multiplier (a .length) scale (rowOf a k) t)
+  key-out m scale t x k law =
+      low-bit x _
+      ∙ ap (flipped (x % 2))
+      (counted keyOf Multiplier (countTo m) (a .length) scale t a k small
+      (λ y l. key-toggle m y l ∙ ap (λ b. not (eqb y 4095) && b) (law y l)))
+
+  times-out : (start q x k : ℕ)
+      → flipped x (passed (timesCount start (a .length) q) (keyRow keyOf a k)) ≡ timesAt a start q (x % 2) (rowOf a k)
+  times-out start q x k =
+      push F (ltb q start) _ _
+      ∙ by-test (ltb q start) (λ e. still x (keyRow keyOf a k))
+      (λ e.
+      cond-case (λ n. F n ≡ flipped (x % 2) (flips Multiplier (a .length) (a .length) (rowOf a k) (q - start))) (eqb (a .length) 0) _ _
+      (λ z.
+      let none = eqb-true (a .length) 0 z in
+      key-out 65535 (a .length) (q - start) x k
+      (λ y l. le-leb y 65535 (omega arith) ∙ sym (le-leb (y * a .length) (q - start) (rw (none, mul-zero) (omega arith)))))
+      (λ z.
+      let pos : 0 < a .length = omega (arith, eqb-false (a .length) 0 z) in
+      key-out ((q - start) / a .length) (a .length) (q - start) x k
+      (λ y l. leb-iff y _ _ _ (le-div-iff-mul-le pos .0) (le-div-iff-mul-le pos .1))))
+    where
+      F : ℕ → ℕ
+      F n = flipped x (passed n (keyRow keyOf a k))
+
+  late-out : (p x k : ℕ) → flipped x (passed (countTo (p - a .length)) (keyRow keyOf a k)) ≡ lateAt a p (x % 2) (rowOf a k)
+  late-out p x k =
+      key-out (p - a .length) 1 (p - a .length) x k (λ y l. leb-iff y _ (y * 1) _ (λ h. omega arith) (λ h. omega arith))
+
+  -- ---- six outputs: what holds of each level and row holds of the word
+
+  six-out : (key : ℕ → ℕ) (n : ℕ) (G : ℕ → List ℕ → ℕ) → ((x k : ℕ) → flipped x (passed n (keyRow key a k)) ≡ G (x % 2) (rowOf a k))
+      → sixAt (a .levels)
+      (keyRow key a 0 ∷ keyRow key a 1 ∷ keyRow key a 2 ∷ keyRow key a 3 ∷ keyRow key a 4 ∷ keyRow key a 5 ∷ []) n
+      ≡ six (λ k. G (startLevel a k) (rowOf a k))
+  six-out key n G f =
+      let first = f (a .levels) 0 ∙ ap (λ y. G (y % 2) (rowOf a 0)) (sym (div-one (a .levels))) in
+      λ i.
+      first i + f (a .levels / 2) 1 i * 2 + f (a .levels / 4) 2 i * 4 + f (a .levels / 8) 3 i * 8 + f (a .levels / 16) 4 i * 16
+      + f (a .levels / 32) 5 i * 32
+
+  pub run-word : (start r q : ℕ)
+      → sixAt (a .levels) (rowsOf (a .toggles)) (runCount start (a .length) r q) ≡ six (λ k. runLevel a start r k q)
+  run-word start r q = six-out (λ y. y) (runCount start (a .length) r q) (runAt a start r q) (run-out start r q)
+
+  pub times-word : (start q : ℕ)
+      → sixAt (a .levels) (rowsOf (keysOf (a .toggles))) (timesCount start (a .length) q) ≡ six (λ k. timesLevel a start k q)
+  times-word start q = six-out keyOf (timesCount start (a .length) q) (timesAt a start q) (times-out start q)
+
+  pub second-word : (p : ℕ)
+      → sixAt (a .levels) (rowsOf (keysOf (a .toggles))) (countTo (p - a .length)) ≡ six (λ k. secondLevel a k p)
+  second-word p = six-out keyOf (countTo (p - a .length)) (lateAt a p) (late-out p)
+
+-- ---- gates, SUBCK and shutters: a line's pixel held to 16 bits, and edges
+
+cap-leb : (x p : ℕ) → x < 65536 → leb x (upTo 65535 p) ≡ leb x p
+cap-leb x p h =
+    cond-case (λ n. leb x n ≡ leb x p) (ltb p 65535) _ _ (λ e. refl)
+    (λ e. let far = ltb-false p 65535 e in leb-iff x 65535 x p (λ g. omega arith) (λ g. omega arith))
+
+-- two edges that act, or two at one place, which leave the level as it is
+pub edges-act : (level x y p : ℕ) → x < 65536 → y < 65536
+    → flipped level (bit (leb x (upTo 65535 p)) + bit (leb y (upTo 65535 p))) ≡ flipped level (bit (leb x p) + bit (leb y p))
+edges-act level x y p hx hy = λ i. flipped level (bit (cap-leb x p hx i) + bit (cap-leb y p hy i))
+
+pub edges-rest : (level p : ℕ) → flipped level (bit (leb 0 p) + bit (leb 0 p)) ≡ flipped level 0
+edges-rest level p = rw (le-leb 0 p (omega arith)) (omega arith)
+
+-- a shutter flips at both ends of its span
+pub span-turns : (level from to p : ℕ) → from ≤ to
+    → flipped (level % 2 + 1) (bit (leb from p) + bit (leb to p)) ≡ flipped level (cond (within from to p) 0 1)
+span-turns level from to p h =
+    by-cases (leb from p)
+    (λ e.
+    by-cases (leb to p)
+    (λ g. rw (e, g, le-ltb p to (leb-true to p g)) (omega arith))
+    (λ g. rw (e, g, lt-ltb p to (leb-false to p g)) (omega arith)))
+    (λ e.
+    let before = leb-false from p e in
+    rw (e, lt-leb to p (omega arith)) (omega arith))
+
+-- one that ends before it starts has no span
+pub span-none : (level from to p : ℕ) → to < from → flipped (level % 2 + 1) 0 ≡ flipped level (cond (within from to p) 0 1)
+span-none level from to p h =
+    by-cases (leb from p)
+    (λ e. rw (e, le-ltb p to (omega (arith, leb-true from p e))) (omega arith))
+    (λ e. rw e (omega arith))
+
+-- ---- the word
+
+-- a choice for each output is a choice of the word
+six-cond : (b : Bool) (f g : ℕ → ℕ) → cond b (six f) (six g) ≡ six (λ k. cond b (f k) (g k))
+six-cond true f g = refl
+six-cond false f g = refl
+
+-- V1 to V6, by what the two patterns made ready say
+pub unmasked-word : (l : Line) (q : ℕ) {acts : Bool} {length second first : ℕ} → acts ≡ l .double → length ≡ l .second .length
+    → second ≡ secondWord (l .second) q → first ≡ firstWord (l .mode) (l .pattern) (l .start) (l .origin) (l .repetitions) q
+    → cond (acts && leb length q) second first ≡ six (λ k. unmasked l k q)
+unfolding firstWord secondWord
+unmasked-word l q acts length second first =
+    (λ i. cond (acts i && leb (length i) q) (second i) (first i))
+    ∙ six-cond (l .double && leb (l .second .length) q) (λ k. secondLevel (l .second) k q)
+    (λ k. firstLevel (l .mode) (l .pattern) (l .start) (l .origin) (l .repetitions) k q)
+
+-- the two parts of the word
+pub two-parts : (l : Line) (p : ℕ)
+    → six (λ k. unmasked l k (shownAt (l .mask1) (l .mask2) p)) + othersWord (l .gates) (l .subck) (l .mshut) (l .strobe) p * 64
+    ≡ wordOf l p
+unfolding wordOf vWord othersWord
+two-parts l p = omega arith
+
+-- one word more, from a pixel on
+pub filled-more : (f : ℕ → ℕ) (out : List ℕ) (i w : ℕ) → i < length out → take i out ≡ chunks i (λ k. f k ∷ []) → w ≡ f i
+    → take (i + 1) (set out i w) ≡ chunks (i + 1) (λ k. f k ∷ [])
+filled-more f out i w h g e =
+    ap (λ n. take n (set out i w)) (add-one i)
+    ∙ take-suc-set out i w h
+    ∙ (λ j. g j ++ (e j ∷ []))
+    ∙ sym (chunks-more i (λ k. f k ∷ []))

@@ -1,0 +1,54 @@
+-- By the mode; a run in plain has its origin at the line's first pixel.
+-- Assumes nothing.
+use mathlib.Core.Path.{_∙_, ap}
+use native.Mathlib.Nat.{zero-add}
+use borrow.Author.Needs.{needs}
+use Rattle.level.specs.Ready.{runWord, timesWord, firstWord}
+use Rattle.level.proofs.outputs.first_of.Statement.{statement}
+use Rattle.level.proofs.outputs.first_of.Tie as tie
+
+enum-told : tie.Need-enum-told
+enum-told c = search needs
+
+run-first-requires : tie.Need-run-first-requires
+run-first-requires c κs = search needs
+
+enum-told-2 : tie.Need-enum-told-2
+enum-told-2 c = search needs
+
+run-first-requires-2 : tie.Need-run-first-requires-2
+run-first-requires-2 c κs = search needs
+
+enum-told-3 : tie.Need-enum-told-3
+enum-told-3 c = search needs
+
+times-first-requires : tie.Need-times-first-requires
+times-first-requires c κs = search needs
+
+returns : tie.Need-returns
+unfolding firstWord runWord
+returns c =
+    let a = c .before .before .before .args in
+    rw (c .before .enum-told .given .1) (λ p. c .run-first .ensures p ∙ ap (runWord (a .a) (a .start) (a .r)) (zero-add p))
+
+returns-2 : tie.Need-returns-2
+unfolding firstWord runWord
+returns-2 c = rw (c .before .enum-told2 .given .1) (c .run-first2 .ensures)
+
+returns-3 : tie.Need-returns-3
+unfolding firstWord timesWord
+returns-3 c = rw (c .before .enum-told3 .given .1) (c .times-first .ensures)
+
+pub first-of-spec : {M : Type 1} → statement M
+first-of-spec =
+    tie.close
+    (tie.spec
+    enum-told
+    run-first-requires
+    enum-told-2
+    run-first-requires-2
+    enum-told-3
+    times-first-requires
+    returns
+    returns-2
+    returns-3)

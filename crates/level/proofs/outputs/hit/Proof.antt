@@ -1,0 +1,15 @@
+-- The branch decides the test.
+-- Assumes nothing.
+use native.Mathlib.Omega.{arith}
+use borrow.Author.Tests.{lt-ltb, le-ltb}
+use Rattle.level.proofs.outputs.hit.Statement.{statement}
+use Rattle.level.proofs.outputs.hit.Tie as tie
+
+returns : tie.Need-returns
+returns c = (simp (lt-ltb _ _ (c .if1 .taken)), omega arith)
+
+returns-2 : tie.Need-returns-2
+returns-2 c = (simp (le-ltb _ _ (c .if1 .left)), omega arith)
+
+pub hit-spec : {M : Type 1} → statement M
+hit-spec = tie.close (tie.spec returns returns-2)

@@ -1,0 +1,35 @@
+-- The word by its two parts, each by what the parts made ready say.
+-- Assumes nothing.
+use Prim.Native.Nat.{_+_, _*_}
+use mathlib.Core.Path.{_∙_, ap₂}
+use borrow.Author.Needs.{needs}
+use Rattle.level.specs.Ready.{unmaskedAt, readyWord}
+use Rattle.level.specs.Word.{shownAt}
+use Rattle.level.proofs.Counting.{unmasked-word, two-parts}
+use Rattle.level.proofs.outputs.prepare.Statement.{statement}
+use Rattle.level.proofs.outputs.prepare.Tie as tie
+
+first-of-requires : tie.Need-first-of-requires
+first-of-requires c κs = search needs
+
+second-of-requires : tie.Need-second-of-requires
+second-of-requires c κs = search needs
+
+others-of-requires : tie.Need-others-of-requires
+others-of-requires c κs = search needs
+
+returns : tie.Need-returns
+unfolding readyWord unmaskedAt
+returns c =
+    let s = c .before .before .before .before .before .before .before in
+    let f = s .before .before in
+    let l = f .before .before .args .line in
+    λ p.
+    let q = shownAt (l .mask1) (l .mask2) p in
+    ap₂ (λ v e. v + e * 64)
+    (unmasked-word l q (s .second-of .ensures .0) (s .second-of .ensures .1) (s .second-of .ensures .2 q) (f .first-of .ensures q))
+    (c .others-of .ensures p)
+    ∙ two-parts l p
+
+pub prepare-spec : {M : Type 1} → statement M
+prepare-spec = tie.close (tie.spec first-of-requires second-of-requires others-of-requires returns)

@@ -1,0 +1,28 @@
+-- With keys and t / length as count the levels are those of multiplier.
+-- Assumes nothing.
+use Prim.Native.Nat.{_+_}
+use mathlib.Core.Path.{_∙_, ap}
+use borrow.Author.Needs.{needs}
+use lib.ListN.{getD}
+use mir.Syntax.{w16}
+use mir.Val.{Fits}
+use Rattle.level.specs.Ready.{timesWord, firstAt, firstCount}
+use Rattle.level.specs.Count.{timesCount, rowsOf, sixAt}
+use Rattle.level.proofs.Counting.{Small, times-word}
+use Rattle.level.proofs.outputs.times_first.Statement.{statement}
+use Rattle.level.proofs.outputs.times_first.Tie as tie
+
+keys-of-requires : tie.Need-keys-of-requires
+keys-of-requires c κs = search needs
+
+returns : tie.Need-returns
+unfolding firstAt firstCount timesWord
+returns c =
+    let a = c .before .before .args in
+    let small : Small (a .a .toggles) = λ i. let h : Fits w16 (getD (a .a .toggles) i 0) = search needs in h .fits in
+    λ p.
+    ap (λ keys. sixAt (a .a .levels) (rowsOf keys) (timesCount (a .start) (a .a .length) (a .origin + p))) (c .keys-of .ensures)
+    ∙ times-word (a .a) small (a .start) (a .origin + p)
+
+pub times-first-spec : {M : Type 1} → statement M
+times-first-spec = tie.close (tie.spec keys-of-requires returns)

@@ -1,0 +1,548 @@
+// The output word at a pixel of a line. A line is made ready once: each toggle becomes a key and each gate, SUBCK and shutter two edges.
+// At a pixel there is then one count for all six V outputs, and a toggle is passed where its key is below the count.
+use crate::Line;
+use crate::Mask;
+use crate::Pulse;
+use crate::Span;
+use profile::Mode;
+use profile::Pattern;
+ghost use Prim.Native.Nat.{ℕ, _+_, _-_, _*_, _^_, _≤_, _<_};
+ghost use mathlib.Core.Path.{_≡_};
+ghost use mathlib.Core.List.{[], _∷_};
+ghost use lib.Dec.{leb, ltb};
+ghost use lib.ListN.{length};
+ghost use Rattle.profile.specs.Lists.{chunks};
+ghost use Rattle.level.specs.Word.{bit, flipped, within, frozen, shownAt, pulseLevel, spanLevel, wordOf};
+ghost use Rattle.level.specs.Fieldwords.{lineWords};
+ghost use Rattle.level.specs.Count.{runCount, keyOf, keysOf, countTo, timesCount, upTo, passed, rowsOf, sixAt};
+ghost use Rattle.level.specs.Ready.{runWord, timesWord, firstWord, secondWord, othersWord, firstCount, firstAt, secondAt, secondBegun, unmaskedAt, edgesAt, eightAt, readyWord};
+
+// The first pattern made ready. `times` says that it is multiplied; in plain its origin is 0.
+struct First {
+    times: bool,
+    levels: u16,
+    length: u16,
+    keys: [u16; 18],
+    start: u16,
+    origin: u32,
+    repetitions: u16,
+}
+
+// The second pattern made ready, and whether it acts on the line.
+struct Second {
+    acts: bool,
+    levels: u16,
+    length: u16,
+    keys: [u16; 18],
+}
+
+// A gate, SUBCK or shutter made ready: its level before both edges, and the pixels where it flips.
+struct Edges {
+    level: u16,
+    on: u16,
+    off: u16,
+}
+
+// A line made ready.
+struct Ready {
+    first: First,
+    second: Second,
+    mask1: Mask,
+    mask2: Mask,
+    others: [Edges; 8],
+}
+
+// 1 where a key is below the count.
+fn hit(key: u16, n: u16) -> u16
+    ensures { λ r. ⌜ r ≡ bit (ltb key n) ⌝ }
+    ensures { λ r. ⌜ r < 2 ⌝ }
+{
+    if key < n { 1 } else { 0 }
+}
+
+// How many of an output's three toggles are passed.
+fn flips(keys: [u16; 3], n: u16) -> u16
+    ensures { λ r. ⌜ r ≡ passed n keys ⌝ }
+    ensures { λ r. ⌜ r < 4 ⌝ }
+{
+    hit(keys[0], n) + hit(keys[1], n) + hit(keys[2], n)
+}
+
+// The level of one output: bit 0 of `level`, flipped once for each toggle passed.
+fn output(level: u16, keys: [u16; 3], n: u16) -> u16
+    ensures { λ r. ⌜ r ≡ flipped level (passed n keys) ⌝ }
+    ensures { λ r. ⌜ r < 2 ⌝ }
+{
+    (level % 2 + flips(keys, n)) % 2
+}
+
+// Six levels as bits.
+fn bits6(a: u16, b: u16, c: u16, d: u16, e: u16, f: u16) -> u16
+    requires { ⌜ (a < 2) × (b < 2) × (c < 2) × (d < 2) × (e < 2) × (f < 2) ⌝ }
+    ensures { λ r. ⌜ r ≡ a + b * 2 + c * 4 + d * 8 + e * 16 + f * 32 ⌝ }
+    ensures { λ r. ⌜ r < 64 ⌝ }
+{
+    a + b * 2 + c * 4 + d * 8 + e * 16 + f * 32
+}
+
+// The levels of V1 to V6.
+fn six(levels: u16, keys: [[u16; 3]; 6], n: u16) -> u16
+    ensures { λ r. ⌜ r ≡ sixAt levels keys n ⌝ }
+    ensures { λ r. ⌜ r < 64 ⌝ }
+{
+    bits6(
+        output(levels, keys[0], n),
+        output(levels / 2, keys[1], n),
+        output(levels / 4, keys[2], n),
+        output(levels / 8, keys[3], n),
+        output(levels / 16, keys[4], n),
+        output(levels / 32, keys[5], n),
+    )
+}
+
+// 18 toggles, or their keys, as six outputs of three.
+fn rows(t: [u16; 18]) -> [[u16; 3]; 6]
+    ensures { λ r. ⌜ r ≡ rowsOf t ⌝ }
+{
+    [
+        [t[0], t[1], t[2]],
+        [t[3], t[4], t[5]],
+        [t[6], t[7], t[8]],
+        [t[9], t[10], t[11]],
+        [t[12], t[13], t[14]],
+        [t[15], t[16], t[17]],
+    ]
+}
+
+// The pixels of a run.
+fn run_length(r: u16, length: u16) -> u32
+    ensures { λ n. ⌜ n ≡ r * length ⌝ }
+{
+    (r as u32) * (length as u32)
+}
+
+// Plain and sweep: the place in the repetition, counted from 1; 0 before the start and after the run.
+fn run(start: u16, length: u16, r: u16, q: u32) -> u16
+    ensures { λ n. ⌜ n ≡ runCount start length r q ⌝ }
+{
+    let s = start as u32;
+    if q < s {
+        return 0;
+    }
+    let t = q - s;
+    if t < run_length(r, length) {
+        return (t % (length as u32) + 1) as u16;
+    }
+    0
+}
+
+// The count that passes the used toggles up to m.
+fn count_to(m: u64) -> u16
+    ensures { λ n. ⌜ n ≡ countTo m ⌝ }
+{
+    if m < 4095 {
+        return (m + 1) as u16;
+    }
+    if m < 65535 {
+        return m as u16;
+    }
+    65535
+}
+
+// Multiplier: a toggle is passed once so many lengths have gone by since the start.
+fn times(start: u16, length: u16, q: u32) -> u16
+    ensures { λ n. ⌜ n ≡ timesCount start length q ⌝ }
+{
+    let s = start as u32;
+    if q < s {
+        return 0;
+    }
+    if length == 0 {
+        return 65535;
+    }
+    count_to(((q - s) / (length as u32)) as u64)
+}
+
+// The region's pixel, or the last of 32 bits, where every run is over and every toggle passed.
+fn region_pixel(origin: u32, p: u64) -> u32
+    ensures { λ r. ⌜ r ≡ upTo 4294967295 (origin + p) ⌝ }
+{
+    if 4294967295 <= p {
+        return 4294967295;
+    }
+    let q = origin as u64 + p;
+    if q < 4294967295 {
+        return q as u32;
+    }
+    4294967295
+}
+
+// The first pattern's count.
+fn count(f: First, p: u64) -> u16
+    ensures { λ n. ⌜ n ≡ firstCount f (f .origin + p) ⌝ }
+{
+    let q = region_pixel(f.origin, p);
+    if f.times {
+        return times(f.start, f.length, q);
+    }
+    run(f.start, f.length, f.repetitions, q)
+}
+
+// V1 to V6 by the first pattern.
+fn first_at(f: First, p: u64) -> u16
+    ensures { λ r. ⌜ r ≡ firstAt f p ⌝ }
+    ensures { λ r. ⌜ r < 64 ⌝ }
+{
+    let keys = f.keys;
+    six(f.levels, rows(keys), count(f, p))
+}
+
+// V1 to V6 by the second pattern.
+fn second_at(s: Second, p: u64) -> u16
+    requires { ⌜ s .length ≤ p ⌝ }
+    ensures { λ r. ⌜ r ≡ secondAt s p ⌝ }
+    ensures { λ r. ⌜ r < 64 ⌝ }
+{
+    let keys = s.keys;
+    six(s.levels, rows(keys), count_to(p - (s.length as u64)))
+}
+
+// Whether the second pattern has taken over.
+fn begun(s: Second, p: u64) -> bool
+    ensures { λ r. ⌜ r ≡ secondBegun s p ⌝ }
+{
+    if s.acts {
+        return s.length as u64 <= p;
+    }
+    false
+}
+
+// V1 to V6 before masks.
+fn unmasked_at(r: Ready, p: u64) -> u16
+    ensures { λ w. ⌜ w ≡ unmaskedAt r p ⌝ }
+    ensures { λ w. ⌜ w < 64 ⌝ }
+{
+    let s = r.second;
+    if begun(s, p) {
+        return second_at(s, p);
+    }
+    let f = r.first;
+    first_at(f, p)
+}
+
+// Whether a pixel is at or after one place and before another.
+fn inside(from: u16, to: u16, p: u64) -> bool
+    ensures { λ r. ⌜ r ≡ within from to p ⌝ }
+{
+    let a = from as u64;
+    let b = to as u64;
+    if p < a {
+        return false;
+    }
+    p < b
+}
+
+// Whether a mask holds its outputs at a pixel.
+fn holds(m: Mask, p: u64) -> bool
+    ensures { λ r. ⌜ r ≡ frozen m p ⌝ }
+{
+    if m.on {
+        return inside(m.freeze, m.resume, p);
+    }
+    false
+}
+
+// The pixel whose levels a mask holds.
+fn held_pixel(m: Mask) -> u64
+    ensures { λ r. ⌜ r ≡ m .freeze ⌝ }
+{
+    m.freeze as u64
+}
+
+// The pixel whose unmasked levels show.
+fn shown(a: Mask, b: Mask, p: u64) -> u64
+    ensures { λ r. ⌜ r ≡ shownAt a b p ⌝ }
+{
+    if holds(a, p) {
+        return held_pixel(a);
+    }
+    if holds(b, p) {
+        return held_pixel(b);
+    }
+    p
+}
+
+// 1 from the edge on.
+fn reached(x: u16, p: u16) -> u16
+    ensures { λ r. ⌜ r ≡ bit (leb x p) ⌝ }
+    ensures { λ r. ⌜ r < 2 ⌝ }
+{
+    if x <= p { 1 } else { 0 }
+}
+
+// The level of one output with two edges.
+fn edges_at(e: Edges, p: u16) -> u16
+    ensures { λ r. ⌜ r ≡ edgesAt e p ⌝ }
+    ensures { λ r. ⌜ r < 2 ⌝ }
+{
+    (e.level % 2 + (reached(e.on, p) + reached(e.off, p))) % 2
+}
+
+// Eight levels as bits.
+fn bits8(a: u16, b: u16, c: u16, d: u16, e: u16, f: u16, g: u16, h: u16) -> u16
+    requires { ⌜ (a < 2) × (b < 2) × (c < 2) × (d < 2) × (e < 2) × (f < 2) × (g < 2) × (h < 2) ⌝ }
+    ensures { λ r. ⌜ r ≡ a + b * 2 + c * 4 + d * 8 + e * 16 + f * 32 + g * 64 + h * 128 ⌝ }
+    ensures { λ r. ⌜ r < 256 ⌝ }
+{
+    a + b * 2 + c * 4 + d * 8 + e * 16 + f * 32 + g * 64 + h * 128
+}
+
+// VSG1 to VSG5, SUBCK, MSHUT and STROBE.
+fn eight(t: [Edges; 8], p: u16) -> u16
+    ensures { λ r. ⌜ r ≡ eightAt t p ⌝ }
+    ensures { λ r. ⌜ r < 256 ⌝ }
+{
+    bits8(
+        edges_at(t[0], p),
+        edges_at(t[1], p),
+        edges_at(t[2], p),
+        edges_at(t[3], p),
+        edges_at(t[4], p),
+        edges_at(t[5], p),
+        edges_at(t[6], p),
+        edges_at(t[7], p),
+    )
+}
+
+// The pixel, or the last of 16 bits: every edge is at or before that.
+fn line_pixel(p: u64) -> u16
+    ensures { λ r. ⌜ r ≡ upTo 65535 p ⌝ }
+{
+    if p < 65535 {
+        return p as u16;
+    }
+    65535
+}
+
+// The two parts of a word.
+fn join(v: u16, e: u16) -> u16
+    requires { ⌜ (v < 64) × (e < 256) ⌝ }
+    ensures { λ r. ⌜ r ≡ v + e * 64 ⌝ }
+    ensures { λ r. ⌜ r < 2 ^ 14 ⌝ }
+{
+    v + e * 64
+}
+
+// The word of a line made ready.
+fn word_at(r: Ready, p: u64) -> u16
+    ensures { λ w. ⌜ w ≡ readyWord r p ⌝ }
+{
+    let a = r.mask1;
+    let b = r.mask2;
+    let v = unmasked_at(r, shown(a, b, p));
+    let t = r.others;
+    join(v, eight(t, line_pixel(p)))
+}
+
+// The key of a toggle where 4095 is unused: the highest number, and the toggles above it move down by one.
+fn key(x: u16) -> u16
+    ensures { λ r. ⌜ r ≡ keyOf x ⌝ }
+{
+    if x == 4095 {
+        return 65535;
+    }
+    if x < 4095 {
+        return x;
+    }
+    x - 1
+}
+
+// The keys of 18 toggles.
+fn keys_of(t: [u16; 18]) -> [u16; 18]
+    ensures { λ r. ⌜ r ≡ keysOf t ⌝ }
+{
+    [
+        key(t[0]),
+        key(t[1]),
+        key(t[2]),
+        key(t[3]),
+        key(t[4]),
+        key(t[5]),
+        key(t[6]),
+        key(t[7]),
+        key(t[8]),
+        key(t[9]),
+        key(t[10]),
+        key(t[11]),
+        key(t[12]),
+        key(t[13]),
+        key(t[14]),
+        key(t[15]),
+        key(t[16]),
+        key(t[17]),
+    ]
+}
+
+// Plain and sweep made ready: a toggle is its own key.
+fn run_first(a: Pattern, start: u16, origin: u32, r: u16) -> First
+    ensures { λ f. ⌜ ((p : ℕ) → firstAt f p ≡ runWord a start r (origin + p)) ⌝ }
+{
+    let t = a.toggles;
+    First {
+        times: false,
+        levels: a.levels,
+        length: a.length,
+        keys: t,
+        start: start,
+        origin: origin,
+        repetitions: r,
+    }
+}
+
+// Multiplier made ready.
+fn times_first(a: Pattern, start: u16, origin: u32) -> First
+    ensures { λ f. ⌜ ((p : ℕ) → firstAt f p ≡ timesWord a start (origin + p)) ⌝ }
+{
+    let t = a.toggles;
+    let keys = keys_of(t);
+    First {
+        times: true,
+        levels: a.levels,
+        length: a.length,
+        keys: keys,
+        start: start,
+        origin: origin,
+        repetitions: 0,
+    }
+}
+
+// The first pattern made ready by its mode.
+fn first_of(mode: Mode, a: Pattern, start: u16, origin: u32, r: u16) -> First
+    ensures { λ f. ⌜ ((p : ℕ) → firstAt f p ≡ firstWord mode a start origin r p) ⌝ }
+{
+    match mode {
+        Mode::Plain => run_first(a, start, 0, r),
+        Mode::Sweep => run_first(a, start, origin, r),
+        Mode::Multiplier => times_first(a, start, origin),
+    }
+}
+
+// The second pattern made ready.
+fn second_of(acts: bool, a: Pattern) -> Second
+    ensures { λ s. ⌜ (s .acts ≡ acts) × (s .length ≡ a .length) × ((p : ℕ) → secondAt s p ≡ secondWord a p) ⌝ }
+{
+    let t = a.toggles;
+    let keys = keys_of(t);
+    Second {
+        acts: acts,
+        levels: a.levels,
+        length: a.length,
+        keys: keys,
+    }
+}
+
+// A gate or SUBCK made ready: where it does not act, two edges at one place leave its level.
+fn pulse_edges(g: Pulse) -> Edges
+    ensures { λ e. ⌜ ((p : ℕ) → edgesAt e (upTo 65535 p) ≡ pulseLevel g p) ⌝ }
+{
+    if g.acts {
+        return Edges {
+            level: g.level,
+            on: g.toggle1,
+            off: g.toggle2,
+        };
+    }
+    Edges {
+        level: g.level,
+        on: 0,
+        off: 0,
+    }
+}
+
+// A shutter made ready: outside its span it has the opposite level.
+fn span_edges(s: Span) -> Edges
+    ensures { λ e. ⌜ ((p : ℕ) → edgesAt e (upTo 65535 p) ≡ spanLevel s p) ⌝ }
+{
+    let level = s.level % 2 + 1;
+    if s.from <= s.to {
+        return Edges {
+            level: level,
+            on: s.from,
+            off: s.to,
+        };
+    }
+    Edges {
+        level: level,
+        on: 0,
+        off: 0,
+    }
+}
+
+// VSG1 to VSG5, SUBCK, MSHUT and STROBE made ready.
+fn others_of(gates: [Pulse; 5], subck: Pulse, mshut: Span, strobe: Span) -> [Edges; 8]
+    ensures { λ t. ⌜ ((p : ℕ) → eightAt t (upTo 65535 p) ≡ othersWord gates subck mshut strobe p) ⌝ }
+{
+    [
+        pulse_edges(gates[0]),
+        pulse_edges(gates[1]),
+        pulse_edges(gates[2]),
+        pulse_edges(gates[3]),
+        pulse_edges(gates[4]),
+        pulse_edges(subck),
+        span_edges(mshut),
+        span_edges(strobe),
+    ]
+}
+
+// A line made ready: its word at every pixel is the line's.
+fn prepare(line: Line) -> Ready
+    ensures { λ r. ⌜ ((p : ℕ) → readyWord r p ≡ wordOf line p) ⌝ }
+{
+    let mode = line.mode;
+    let a = line.pattern;
+    let first = first_of(mode, a, line.start, line.origin, line.repetitions);
+    let b = line.second;
+    let second = second_of(line.double, b);
+    let mask1 = line.mask1;
+    let mask2 = line.mask2;
+    let gates = line.gates;
+    let subck = line.subck;
+    let mshut = line.mshut;
+    let strobe = line.strobe;
+    let others = others_of(gates, subck, mshut, strobe);
+    Ready {
+        first: first,
+        second: second,
+        mask1: mask1,
+        mask2: mask2,
+        others: others,
+    }
+}
+
+// The words of a line made ready, from a pixel on.
+fn words(r: Ready, first: u64, out: &mut [u16])
+    requires { ⌜ first + length (now out) ≤ 2 ^ 64 ⌝ }
+    ensures { λ _. ⌜ now (out .exit) ≡ chunks (length (now (out .entry))) (λ i. readyWord r (first + i) ∷ []) ⌝ }
+{
+    let mut i: usize = 0;
+    while i < out.len() {
+        out[i] = word_at(r, first + i as u64);
+        i += 1;
+    }
+}
+
+// The word of a line at a pixel.
+pub fn word_of(line: Line, pixel: u64) -> u16
+    ensures { λ r. ⌜ r ≡ wordOf line pixel ⌝ }
+{
+    let mut out = [0u16; 1];
+    words(prepare(line), pixel, &mut out);
+    out[0]
+}
+
+// The words of a line's first pixels, as many as the slice has room for.
+pub fn fill(line: Line, out: &mut [u16])
+    ensures { λ _. ⌜ now (out .exit) ≡ lineWords line (length (now (out .entry))) ⌝ }
+{
+    words(prepare(line), 0, out);
+}
