@@ -1,5 +1,5 @@
 pub mod Cases
-pub mod Playing
+pub mod Player
 pub mod Runs
 pub mod Shortest
 pub mod Demanded

@@ -16,7 +16,7 @@ use Rattle.profile.proofs.Laws.{cond-case, by-cases}
 use Rattle.holdlist.specs.declared.Step.{Step}
 use Rattle.holdlist.specs.Play.{walk, expand, shown}
 use Rattle.holdlist.specs.Runs.{none, flush, pushed, shut, opened, closed, runs, countOf, wordOf, countsOf, wordsOf}
-use Rattle.holdlist.proofs.Playing.{showing}
+use Rattle.holdlist.proofs.Player.{showing}
 
 -- ---- lists
 
