@@ -3,3 +3,4 @@ pub mod Player
 pub mod Runs
 pub mod Shortest
 pub mod Demanded
+pub mod Fills

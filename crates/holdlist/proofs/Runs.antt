@@ -137,7 +137,7 @@ unfolding total
 total-append o xs ys = rw (closed-append o xs ys, opened-append o xs ys, length-append) (omega arith)
 
 -- pushing more of the open step's word closes nothing
-closed-same : (n k w : ℕ) → closed (record { count = k; word = w }) (replicate n w) ≡ []
+pub closed-same : (n k w : ℕ) → closed (record { count = k; word = w }) (replicate n w) ≡ []
 unfolding closed shut pushed
 closed-same zero k w = refl
 closed-same (suc n) k w = rw (eq-eqb w w refl) (closed-same n (suc k) w)

@@ -1,7 +1,9 @@
 // Hold lists: u32 counts beside u16 words. A field is compiled into the shortest list that plays it.
 use profile::Verdict;
 
+mod filling;
 mod playing;
+mod steps;
 
 pub use playing::play;
 
