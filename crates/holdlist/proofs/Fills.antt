@@ -7,7 +7,7 @@ use native.Mathlib.Numerals.{add-one}
 use native.Mathlib.Nat.{zero-min, min-zero, suc-min-suc, add-zero, add-suc, suc-add, add-comm}
 use mathlib.Core.Path.{_≡_, refl, sym, ap, _∙_}
 use mathlib.Core.List.{List, [], _∷_, _++_, map, map-append, append-nil, append-assoc}
-use lib.ListN.{length, getD, take, drop, set, replicate, length-append, length-map, length-drop, drop-of-length-le, replicate-append-replicate}
+use lib.ListN.{length, getD, take, drop, set, replicate, length-append, length-map, length-drop, length-replicate, drop-of-length-le, replicate-append-replicate}
 use lib.Seq.{take-all, take-suc}
 use borrow.Author.Tests.{eq-eqb, ne-eqb}
 use borrow.Rule.Slice.PartMut.{midOf, putMid}
@@ -202,3 +202,9 @@ alike-on {xs} {w} {i} {j} a h e =
       within = omega arith;
       grows = rw (k, ← replicate-append-replicate (j - i) 1 w, add-one, take-suc xs j 0, e, a .grows, append-assoc);
     }
+
+-- it is pushed, and closes no more steps than it has words
+pub alike-few :
+    {o h : Step} {xs cs ws cs′ ws′ : List ℕ} {n w i j : ℕ} →
+    Alike xs w i j → Fills o (replicate (j - i) w) cs ws n h cs′ ws′ → n ≤ j - i
+alike-few {w = w} {i = i} {j = j} a f = omega (arith, filling f, length-replicate (j - i) w)

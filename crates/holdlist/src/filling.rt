@@ -24,12 +24,7 @@ fn run_end(line: &[u16], at: usize) -> usize
 }
 
 // The words of a line are pushed, run by run, each run given only what is free.
-pub(crate) fn hold_words(
-    o: Step,
-    line: &[u16],
-    counts: &mut [u32],
-    words: &mut [u16],
-) -> Filled
+pub(crate) fn hold_words(o: Step, line: &[u16], counts: &mut [u32], words: &mut [u16]) -> Filled
     requires { ⌜ o .count + length (now line) < 2 ^ 32 ⌝ }
     ensures { λ r. ⌜ Fills o (now (line .entry)) (now (counts .entry)) (now (words .entry)) (r .steps) (r .held) (now (counts .exit)) (now (words .exit)) ⌝ }
 {

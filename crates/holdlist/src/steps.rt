@@ -49,13 +49,7 @@ pub(crate) fn finish(o: Step, counts: &mut [u32], words: &mut [u16]) -> usize
 }
 
 // A word is pushed onto the open step, `times` times.
-pub(crate) fn hold(
-    o: Step,
-    word: u16,
-    times: u32,
-    counts: &mut [u32],
-    words: &mut [u16],
-) -> Filled
+pub(crate) fn hold(o: Step, word: u16, times: u32, counts: &mut [u32], words: &mut [u16]) -> Filled
     requires { ⌜ o .count + times < 2 ^ 32 ⌝ }
     ensures { λ r. ⌜ Fills o (replicate times word) (now (counts .entry)) (now (words .entry)) (r .steps) (r .held) (now (counts .exit)) (now (words .exit)) ⌝ }
 {

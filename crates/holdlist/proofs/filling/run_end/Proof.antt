@@ -8,8 +8,6 @@ use Rattle.holdlist.specs.Fills.{Alike}
 use Rattle.holdlist.proofs.Fills.{alike-start, alike-on}
 use Rattle.holdlist.proofs.filling.run_end.Statement.{statement}
 use Rattle.holdlist.proofs.filling.run_end.Tie as tie
-use Rattle.holdlist.proofs.filling.run_end.Reads as reads
-use Rattle.holdlist.proofs.filling.run_end.Lts as lts
 
 abbrev Inv-loop : tie.InvT-loop
 Inv-loop line at word i₀ i = Alike line word at i

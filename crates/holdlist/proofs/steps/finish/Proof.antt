@@ -4,10 +4,6 @@ use borrow.Author.Needs.{needs}
 use Rattle.holdlist.proofs.Fills.{flush-none, flush-step}
 use Rattle.holdlist.proofs.steps.finish.Statement.{statement}
 use Rattle.holdlist.proofs.steps.finish.Tie as tie
-use Rattle.holdlist.proofs.steps.finish.Reads as reads
-use Rattle.holdlist.proofs.steps.finish.Lts as lts
-use Rattle.holdlist.proofs.steps.put_count.Reads as put-count-reads
-use Rattle.holdlist.proofs.steps.put_word.Reads as put-word-reads
 
 returns : tie.Need-returns
 returns c = flush-none _ _ _ (c .if1 .taken)

@@ -4,9 +4,6 @@ use borrow.Author.Needs.{needs}
 use Rattle.holdlist.proofs.Fills.{hold-joins, hold-none, hold-starts}
 use Rattle.holdlist.proofs.steps.hold.Statement.{statement}
 use Rattle.holdlist.proofs.steps.hold.Tie as tie
-use Rattle.holdlist.proofs.steps.hold.Reads as reads
-use Rattle.holdlist.proofs.steps.hold.Lts as lts
-use Rattle.holdlist.proofs.steps.finish.Reads as finish-reads
 
 add-t10 : tie.Need-add-t10
 add-t10 c = search needs

@@ -5,8 +5,6 @@ use borrow.Author.Needs.{needs}
 use Rattle.holdlist.proofs.Fills.{lay-one, lay-full}
 use Rattle.holdlist.proofs.steps.put_count.Statement.{statement}
 use Rattle.holdlist.proofs.steps.put_count.Tie as tie
-use Rattle.holdlist.proofs.steps.put_count.Reads as reads
-use Rattle.holdlist.proofs.steps.put_count.Lts as lts
 
 slice-write-s : tie.Need-slice-write-s
 slice-write-s c = search needs

@@ -5,8 +5,6 @@ use borrow.Author.Needs.{needs}
 use Rattle.holdlist.proofs.Fills.{lay-one, lay-full}
 use Rattle.holdlist.proofs.steps.put_word.Statement.{statement}
 use Rattle.holdlist.proofs.steps.put_word.Tie as tie
-use Rattle.holdlist.proofs.steps.put_word.Reads as reads
-use Rattle.holdlist.proofs.steps.put_word.Lts as lts
 
 slice-write-s : tie.Need-slice-write-s
 slice-write-s c = search needs
