@@ -7,14 +7,16 @@ use native.Mathlib.Numerals.{add-one}
 use native.Mathlib.Nat.{zero-min, min-zero, suc-min-suc, add-zero, add-suc, suc-add, add-comm}
 use mathlib.Core.Path.{_≡_, refl, sym, ap, _∙_}
 use mathlib.Core.List.{List, [], _∷_, _++_, map, map-append, append-nil, append-assoc}
+use mathlib.Core.Bool.{true}
 use lib.ListN.{length, getD, take, drop, set, replicate, length-append, length-map, length-drop, length-replicate, drop-of-length-le, replicate-append-replicate}
 use lib.Seq.{take-all, take-suc}
-use borrow.Author.Tests.{eq-eqb, ne-eqb}
+use borrow.Author.Tests.{eq-eqb, ne-eqb, eqb-true}
 use borrow.Rule.Slice.PartMut.{midOf, putMid}
 use Rattle.profile.specs.Lists.{over}
+use Rattle.profile.proofs.Laws.{and-left, and-right}
 use Rattle.holdlist.specs.declared.Step.{Step}
 use Rattle.holdlist.specs.Runs.{none, flush, pushed, opened, closed, runs, countOf, wordOf, countsOf, wordsOf}
-use Rattle.holdlist.specs.Fills.{lay, Lays, Fills, Alike}
+use Rattle.holdlist.specs.Fills.{lay, Lays, Fills, Alike, same}
 use Rattle.holdlist.proofs.Runs.{opened-append, closed-append, push-same, push-other, closed-length, closed-same, opened-count, flush-one}
 
 -- ---- one list over the front of another
@@ -202,6 +204,16 @@ alike-on {xs} {w} {i} {j} a h e =
       within = omega arith;
       grows = rw (k, ← replicate-append-replicate (j - i) 1 w, add-one, take-suc xs j 0, e, a .grows, append-assoc);
     }
+
+pub alike-same : (n : ℕ) {xs : List ℕ} {w i j : ℕ} → Alike xs w i j → j + n ≤ length xs → same n xs j w ≡ true → Alike xs w i (j + n)
+unfolding same
+alike-same zero a h e = rw add-zero a
+alike-same (suc n) {xs} {w} {i} {j} a h e =
+    rw (add-suc j n, ← add-one (j + n))
+    (alike-on
+    (alike-same n a (omega arith) (and-left (same n xs j w) _ e))
+    (omega arith)
+    (eqb-true (getD xs (j + n) 0) w (and-right (same n xs j w) _ e)))
 
 -- it is pushed, and closes no more steps than it has words
 pub alike-few :

@@ -1,9 +1,11 @@
 -- What a writer of a hold list does to what is free of the two lists, cs and ws, which are cs′ and ws′ when it is done.
 -- Assumes nothing.
-use Prim.Native.Nat.{ℕ, _-_, _≤_, _<_}
+use Prim.Native.Nat.{ℕ, zero, suc, _+_, _-_, _≤_, _<_}
 use mathlib.Core.Path.{_≡_}
 use mathlib.Core.List.{List, [], _∷_, _++_}
-use lib.ListN.{length, take, replicate}
+use mathlib.Core.Bool.{Bool, true, _&&_}
+use lib.ListN.{length, getD, take, replicate}
+use lib.Dec.{eqb}
 use Rattle.holdlist.specs.declared.Step.{Step}
 use Rattle.holdlist.specs.Runs.{opened, closed, countsOf, wordsOf}
 
@@ -29,3 +31,8 @@ pub record Alike (xs : List ℕ) (w i j : ℕ) : Type 0 where
   pub some : i < j
   pub within : j ≤ length xs
   pub grows : take j xs ≡ take i xs ++ replicate (j - i) w
+
+-- whether the n words of xs from i on are all w
+unfoldable pub same : ℕ → List ℕ → ℕ → ℕ → Bool
+same zero xs i w = true
+same (suc n) xs i w = same n xs i w && eqb (getD xs (i + n) 0) w

@@ -1,11 +1,44 @@
 // Words pushed onto the open step.
-ghost use Prim.Native.Nat.{_+_, _<_, _^_};
+ghost use mathlib.Core.Path.{_≡_};
+ghost use Prim.Native.Nat.{_+_, _<_, _≤_, _^_};
 ghost use lib.ListN.{length, getD};
-ghost use Rattle.holdlist.specs.Fills.{Fills, Alike};
+ghost use Rattle.holdlist.specs.Fills.{Fills, Alike, same};
 use crate::Step;
 use crate::steps::Filled;
 use crate::steps::hold;
 use crate::steps::least;
+
+// Whether the eight words from `at` on are all `word`: one test, so that they are compared side by side.
+fn eight(line: &[u16], at: usize, word: u16) -> bool
+    requires { ⌜ at + 8 ≤ length (now line) ⌝ }
+    ensures { λ r. ⌜ r ≡ same 8 (now (line .entry)) at word ⌝ }
+{
+    (line[at] == word)
+        & (line[at + 1] == word)
+        & (line[at + 2] == word)
+        & (line[at + 3] == word)
+        & (line[at + 4] == word)
+        & (line[at + 5] == word)
+        & (line[at + 6] == word)
+        & (line[at + 7] == word)
+}
+
+// How far the run of equal words that starts at `at` goes by eights.
+fn eights_end(line: &[u16], at: usize) -> usize
+    requires { ⌜ at < length (now line) ⌝ }
+    ensures { λ r. ⌜ Alike (now (line .entry)) (getD (now (line .entry)) at 0) at r ⌝ }
+{
+    let word = line[at];
+    let mut i = at + 1;
+    while 8 <= line.len() - i {
+        if eight(line, i, word) {
+            i += 8;
+        } else {
+            return i;
+        }
+    }
+    i
+}
 
 // Where the run of equal words that starts at `at` ends.
 fn run_end(line: &[u16], at: usize) -> usize
@@ -13,7 +46,7 @@ fn run_end(line: &[u16], at: usize) -> usize
     ensures { λ r. ⌜ Alike (now (line .entry)) (getD (now (line .entry)) at 0) at r ⌝ }
 {
     let word = line[at];
-    let mut i = at + 1;
+    let mut i = eights_end(line, at);
     while i < line.len() {
         if line[i] != word {
             return i;

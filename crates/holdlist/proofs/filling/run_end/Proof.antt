@@ -5,7 +5,7 @@ use native.Mathlib.Omega.{arith}
 use lib.ListN.{length}
 use borrow.Author.Needs.{needs}
 use Rattle.holdlist.specs.Fills.{Alike}
-use Rattle.holdlist.proofs.Fills.{alike-start, alike-on}
+use Rattle.holdlist.proofs.Fills.{alike-on}
 use Rattle.holdlist.proofs.filling.run_end.Statement.{statement}
 use Rattle.holdlist.proofs.filling.run_end.Tie as tie
 
@@ -21,11 +21,11 @@ mul-word c = omega arith
 shared-slice-read-word : tie.Need-shared-slice-read-word Inv-loop μ-loop
 shared-slice-read-word c = omega arith
 
-add-i : tie.Need-add-i Inv-loop μ-loop
-add-i c = omega arith
+eights-end-requires : tie.Need-eights-end-requires Inv-loop μ-loop
+eights-end-requires c κs = search needs
 
 loop-holds : tie.Need-loop-holds Inv-loop μ-loop
-loop-holds c = alike-start _ _ (search needs)
+loop-holds c = c .eights-end .ensures
 
 mul-if1 : tie.Need-mul-if1 Inv-loop μ-loop
 mul-if1 c = omega arith
@@ -36,8 +36,8 @@ shared-slice-read-if1 c = omega arith
 returns : tie.Need-returns Inv-loop μ-loop
 returns c = search needs
 
-add-i-2 : tie.Need-add-i-2 Inv-loop μ-loop
-add-i-2 c = omega arith
+add-i : tie.Need-add-i Inv-loop μ-loop
+add-i c = omega arith
 
 loop-less : tie.Need-loop-less Inv-loop μ-loop
 loop-less c = omega arith
@@ -56,12 +56,12 @@ run-end-spec =
     μ-loop
     mul-word
     shared-slice-read-word
-    add-i
+    eights-end-requires
     loop-holds
     mul-if1
     shared-slice-read-if1
     returns
-    add-i-2
+    add-i
     loop-less
     loop-again
     returns-2)
