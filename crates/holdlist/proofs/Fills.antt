@@ -1,7 +1,7 @@
 -- Laws of `lay`, `Lays` and `Fills`: what two writers do one after the other, the second given only what the first left free; what a word held,
 -- a step closed and a writer without room do. By recursion on the lists.
 -- Assumes nothing.
-use Prim.Native.Nat.{ℕ, zero, suc, _+_, _-_, _≤_, _<_, min}
+use Prim.Native.Nat.{ℕ, zero, suc, _+_, _-_, _≤_, _<_, _^_, min}
 use native.Mathlib.Omega.{arith}
 use native.Mathlib.Numerals.{add-one}
 use native.Mathlib.Nat.{zero-min, min-zero, suc-min-suc, add-zero, add-suc, suc-add, add-comm}
@@ -12,8 +12,8 @@ use lib.ListN.{length, getD, take, drop, set, replicate, length-append, length-m
 use lib.Seq.{take-all, take-suc}
 use borrow.Author.Tests.{eq-eqb, ne-eqb, eqb-true}
 use borrow.Rule.Slice.PartMut.{midOf, putMid}
-use Rattle.profile.specs.Lists.{over}
-use Rattle.profile.proofs.Laws.{and-left, and-right}
+use Rattle.profile.specs.Lists.{chunks, over}
+use Rattle.profile.proofs.Laws.{and-left, and-right, chunks-more, chunk-room}
 use Rattle.holdlist.specs.declared.Step.{Step}
 use Rattle.holdlist.specs.Runs.{none, flush, pushed, opened, closed, runs, countOf, wordOf, countsOf, wordsOf}
 use Rattle.holdlist.specs.Fills.{lay, Lays, Fills, Alike, same}
@@ -115,6 +115,28 @@ pub lays-runs :
 unfolding runs
 lays-runs x ej ek y = rw (← x .leaves) (lays-more (x .lays) ej ek y)
 
+-- words made chunk by chunk, the next of them written
+pub fills-chunk :
+    {o h h′ : Step} {ys cs ws cs′ ws′ p q : List ℕ} {n m j k : ℕ} (i : ℕ) (f : ℕ → List ℕ) →
+    Fills o (chunks i f) cs ws n h cs′ ws′ → j ≡ min n (length cs′) → k ≡ min n (length ws′) →
+    Fills h ys (midOf j (length cs′ - j) cs′) (midOf k (length ws′ - k) ws′) m h′ p q → ys ≡ f i →
+    Fills o (chunks (i + 1) f) cs ws (n + m) h′ (putMid j (length cs′ - j) cs′ p) (putMid k (length ws′ - k) ws′ q)
+fills-chunk i f x ej ek y e = fills-more x ej ek y (rw (e, chunks-more i f))
+
+-- ---- a writer given no room, and one given enough
+
+pub lays-nowhere : {s : List Step} {n : ℕ} {cs′ ws′ : List ℕ} → Lays s [] [] n cs′ ws′ → (cs′ ≡ []) × (ws′ ≡ [])
+lays-nowhere {s} a = (a .counted ∙ lay-nil (countsOf s), a .worded ∙ lay-nil (wordsOf s))
+
+pub lays-whole :
+    {s : List Step} {cs ws cs′ ws′ : List ℕ} {n : ℕ} →
+    Lays s cs ws n cs′ ws′ → length s ≤ length cs → length s ≤ length ws →
+    (cs′ ≡ over (countsOf s) cs) × (ws′ ≡ over (wordsOf s) ws)
+lays-whole {s} {cs} {ws} a h k = (
+  a .counted ∙ lay-fits (countsOf s) cs (rw (length-map s countOf) h),
+  a .worded ∙ lay-fits (wordsOf s) ws (rw (length-map s wordOf) k),
+)
+
 -- ---- what the loops want to know besides
 
 pub record Filling (o : Step) (xs : List ℕ) (cs ws : List ℕ) (steps : ℕ) (held : Step) (cs′ ws′ : List ℕ) : Type 0 where
@@ -134,6 +156,12 @@ filling {o} {h} {xs} {cs} {ws} a =
       few = rw (a .lays .tells) (closed-length o xs);
       small = rw (a .leaves) (opened-count o xs);
     }
+
+-- where all the chunks can be counted, the next can
+pub chunk-counted :
+    {o h : Step} {cs ws cs′ ws′ : List ℕ} {n : ℕ} (i m : ℕ) (f : ℕ → List ℕ) →
+    Filling o (chunks i f) cs ws n h cs′ ws′ → i < m → o .count + length (chunks m f) < 2 ^ 32 → h .count + length (f i) < 2 ^ 32
+chunk-counted i m f x l b = omega (arith, x .small, chunk-room i m f l)
 
 pub flush-few : {cs ws cs′ ws′ : List ℕ} {n : ℕ} (o : Step) → Lays (flush o) cs ws n cs′ ws′ → n ≤ 1
 flush-few o l = rw (l .tells) (flush-one o)

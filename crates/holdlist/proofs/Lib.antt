@@ -4,3 +4,4 @@ pub mod Runs
 pub mod Shortest
 pub mod Demanded
 pub mod Fills
+pub mod Passes
