@@ -17,7 +17,7 @@ use Rattle.profile.proofs.Laws.{and-left, and-right, chunks-more, chunk-room}
 use Rattle.holdlist.specs.declared.Step.{Step}
 use Rattle.holdlist.specs.Runs.{none, flush, pushed, opened, closed, runs, countOf, wordOf, countsOf, wordsOf}
 use Rattle.holdlist.specs.Fills.{lay, Lays, Fills, Alike, same}
-use Rattle.holdlist.proofs.Runs.{opened-append, closed-append, push-same, push-other, closed-length, closed-same, opened-count, flush-one}
+use Rattle.holdlist.proofs.Runs.{opened-append, closed-append, push-other, closed-length, closed-same, opened-count, flush-one}
 
 -- ---- one list over the front of another
 
