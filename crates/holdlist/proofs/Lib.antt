@@ -1,5 +1,7 @@
 pub mod Cases
-pub mod Playing
+pub mod Player
 pub mod Runs
 pub mod Shortest
 pub mod Demanded
+pub mod Fills
+pub mod Passes

@@ -12,7 +12,7 @@ use borrow.Author.Tests.{ltb-true, ltb-false, leb-true, leb-false}
 use Rattle.profile.proofs.Laws.{by-cases}
 use Rattle.holdlist.specs.Play.{playAnswer, expand, shown, notShown}
 use Rattle.holdlist.specs.Runs.{runs, countOf, wordOf, countsOf, wordsOf}
-use Rattle.holdlist.proofs.Playing.{play-walk, play-no-counts, play-no-words, showing, showing-below, showing-past, showing-ext, differ}
+use Rattle.holdlist.proofs.Player.{play-walk, play-no-counts, play-no-words, showing, showing-below, showing-past, showing-ext, differ}
 use Rattle.holdlist.proofs.Runs.{walk-shows, runs-expand, runs-fewest}
 
 -- the first `used` steps of (cs, ws) show the words xs, position by position, and nothing past them

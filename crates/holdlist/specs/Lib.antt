@@ -2,3 +2,4 @@ pub mod Play
 pub mod Runs
 pub mod Compile
 pub mod Demand
+pub mod Fills

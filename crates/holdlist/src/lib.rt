@@ -1,6 +1,12 @@
 // Hold lists: u32 counts beside u16 words. A field is compiled into the shortest list that plays it.
 use profile::Verdict;
 
+mod filling;
+mod playing;
+mod steps;
+
+pub use playing::play;
+
 // A word held for a number of positions.
 pub struct Step {
     pub count: u32,

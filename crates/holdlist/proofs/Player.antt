@@ -1,12 +1,16 @@
--- Playing a list: 20 before all else, then walking its first steps. What a player of a list of words shows, and that it tells the words.
--- By computing the tests, and by recursion on the words.
+-- Playing a list: 20 before all else, then walking its first steps, one a turn of the player's loop. What a player of a list of words shows,
+-- and that it tells the words. By computing the tests, and by recursion on the words.
 -- Assumes nothing.
-use Prim.Native.Nat.{ℕ, zero, suc, _≤_, _<_}
+use Prim.Native.Nat.{ℕ, zero, suc, _+_, _-_, _≤_, _<_}
 use native.Mathlib.Omega.{arith}
-use mathlib.Core.Path.{_≡_, refl, sym, ap}
+use native.Mathlib.Numerals.{add-one}
+use mathlib.Core.Path.{_≡_, refl, sym, ap, _∙_}
 use mathlib.Core.List.{List, [], _∷_}
+use mathlib.Core.Bool.{cond}
 use lib.ListN.{length, getD, take}
-use borrow.Author.Tests.{le-leb, lt-leb}
+use lib.Seq.{slice, slice-cons, slice-empty}
+use lib.Dec.{ltb}
+use borrow.Author.Tests.{le-leb, lt-leb, lt-ltb, le-ltb}
 use Rattle.holdlist.specs.declared.Played.{Played}
 use Rattle.holdlist.specs.Play.{walk, playAnswer, shown, notShown}
 
@@ -24,6 +28,39 @@ module _ (cs ws : List ℕ) (used n : ℕ) where
   pub play-walk : used ≤ length cs → used ≤ length ws → playAnswer cs ws used n ≡ walk (take used cs) (take used ws) n
   unfolding playAnswer
   play-walk k h = rw (le-leb used (length cs) k, le-leb used (length ws) h)
+
+-- ---- the player's loop: to play n is to play `left` from step i on
+
+pub record Playing (cs ws : List ℕ) (used n i left : ℕ) : Type 0 where
+  pub within : i ≤ used
+  pub counted : used ≤ length cs
+  pub worded : used ≤ length ws
+  pub rest : playAnswer cs ws used n ≡ walk (slice i used cs) (slice i used ws) left
+
+pub playing-start : (cs ws : List ℕ) (used n : ℕ) → used ≤ length cs → used ≤ length ws → Playing cs ws used n 0 n
+playing-start cs ws used n k h = record { within = omega arith; counted = k; worded = h; rest = play-walk cs ws used n k h }
+
+module _ {cs ws : List ℕ} {used n i left : ℕ} (p : Playing cs ws used n i left) where
+  playing-cons :
+      i < used →
+      playAnswer cs ws used n ≡
+      cond (ltb left (getD cs i 0)) (shown (getD ws i 0)) (walk (slice (i + 1) used cs) (slice (i + 1) used ws) (left - getD cs i 0))
+  unfolding walk
+  playing-cons h = p .rest ∙ rw (add-one i, slice-cons i used cs 0 h (p .counted), slice-cons i used ws 0 h (p .worded))
+
+  pub playing-here : i < used → left < getD cs i 0 → shown (getD ws i 0) ≡ playAnswer cs ws used n
+  playing-here h l = sym (playing-cons h ∙ rw (lt-ltb left (getD cs i 0) l))
+
+  pub playing-on : i < used → getD cs i 0 ≤ left → Playing cs ws used n (i + 1) (left - getD cs i 0)
+  playing-on h l =
+      record { within = omega arith; counted = p .counted; worded = p .worded; rest = playing-cons h ∙ rw (le-ltb left (getD cs i 0) l) }
+
+  pub playing-end : used ≤ i → notShown 19 ≡ playAnswer cs ws used n
+  unfolding walk
+  playing-end h =
+      let w : i ≤ used = p .within in
+      let e : i ≡ used = omega arith in
+      sym (p .rest ∙ rw (e, slice-empty used cs))
 
 -- ---- a player of words
 

@@ -1,0 +1,79 @@
+// Words pushed onto the open step.
+ghost use mathlib.Core.Path.{_≡_};
+ghost use Prim.Native.Nat.{_+_, _<_, _≤_, _^_};
+ghost use lib.ListN.{length, getD};
+ghost use Rattle.holdlist.specs.Fills.{Fills, Alike, same};
+use crate::Step;
+use crate::steps::Filled;
+use crate::steps::hold;
+use crate::steps::least;
+
+// Whether the eight words from `at` on are all `word`: one test, so that they are compared side by side.
+fn eight(line: &[u16], at: usize, word: u16) -> bool
+    requires { ⌜ at + 8 ≤ length (now line) ⌝ }
+    ensures { λ r. ⌜ r ≡ same 8 (now (line .entry)) at word ⌝ }
+{
+    (line[at] == word)
+        & (line[at + 1] == word)
+        & (line[at + 2] == word)
+        & (line[at + 3] == word)
+        & (line[at + 4] == word)
+        & (line[at + 5] == word)
+        & (line[at + 6] == word)
+        & (line[at + 7] == word)
+}
+
+// How far the run of equal words that starts at `at` goes by eights.
+fn eights_end(line: &[u16], at: usize) -> usize
+    requires { ⌜ at < length (now line) ⌝ }
+    ensures { λ r. ⌜ Alike (now (line .entry)) (getD (now (line .entry)) at 0) at r ⌝ }
+{
+    let word = line[at];
+    let mut i = at + 1;
+    while 8 <= line.len() - i {
+        if eight(line, i, word) {
+            i += 8;
+        } else {
+            return i;
+        }
+    }
+    i
+}
+
+// Where the run of equal words that starts at `at` ends.
+fn run_end(line: &[u16], at: usize) -> usize
+    requires { ⌜ at < length (now line) ⌝ }
+    ensures { λ r. ⌜ Alike (now (line .entry)) (getD (now (line .entry)) at 0) at r ⌝ }
+{
+    let word = line[at];
+    let mut i = eights_end(line, at);
+    while i < line.len() {
+        if line[i] != word {
+            return i;
+        }
+        i += 1;
+    }
+    i
+}
+
+// The words of a line are pushed, run by run, each run given only what is free.
+pub(crate) fn hold_words(o: Step, line: &[u16], counts: &mut [u32], words: &mut [u16]) -> Filled
+    requires { ⌜ o .count + length (now line) < 2 ^ 32 ⌝ }
+    ensures { λ r. ⌜ Fills o (now (line .entry)) (now (counts .entry)) (now (words .entry)) (r .steps) (r .held) (now (counts .exit)) (now (words .exit)) ⌝ }
+{
+    let mut held = o;
+    let mut used: usize = 0;
+    let mut at: usize = 0;
+    while at < line.len() {
+        let end = run_end(line, at);
+        let times = (end - at) as u32;
+        let c = least(used, counts.len());
+        let d = least(used, words.len());
+        let r = hold(held, line[at], times, &mut counts[c..], &mut words[d..]);
+        let next = r.held;
+        held = next;
+        used += r.steps;
+        at = end;
+    }
+    Filled { steps: used, held }
+}
