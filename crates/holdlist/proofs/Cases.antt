@@ -22,7 +22,7 @@ use Rattle.profile.specs.Rules.{
   gateRight,
   subckRight,
   shutterRight,
-  regionEntries,
+  entriesAt,
   lineEntries,
   rulesOf,
   judge,
@@ -175,5 +175,5 @@ table =
     ∷ []
 
 pub cases : map (λ (c : Case). ask (c .script) (c .question)) table ≡ map (λ (c : Case). c .answer) table
-unfolding ask table all chunks sum lastStart emptyField emptyTables patternOf toggleFault highestUsed endLine regionOf lengthIn lineLength regionPixels pixelsBefore pixelCount hasPixel sequenceIn regionIn fieldIn gateIn subckIn shutterIn inRange firstBroken startsRight togglesRight pairsRight maskRight countsRight endsRight secondRight gateRight subckRight shutterRight regionEntries lineEntries rulesOf judge checkProfile registerFits sequenceFits fieldFrom fieldFits gateFits subckFits shutterFits allowed fits put step records readScript lineWith noLine lineOf vWord gateWord wordOf lineWords fieldWords levelAnswer flush pushed shut opened closed runs compileVerdict compileAnswer compileCounts compileWords
+unfolding ask table all chunks sum lastStart emptyField emptyTables patternOf toggleFault highestUsed endLine regionOf lengthIn lineLength regionPixels pixelsBefore pixelCount hasPixel sequenceIn regionIn fieldIn gateIn subckIn shutterIn inRange firstBroken startsRight togglesRight pairsRight maskRight countsRight endsRight secondRight gateRight subckRight shutterRight entriesAt lineEntries rulesOf judge checkProfile registerFits sequenceFits fieldFrom fieldFits gateFits subckFits shutterFits allowed fits put step records readScript lineWith noLine lineOf vWord gateWord wordOf lineWords fieldWords levelAnswer flush pushed shut opened closed runs compileVerdict compileAnswer compileCounts compileWords
 cases = refl
