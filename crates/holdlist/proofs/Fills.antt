@@ -9,11 +9,14 @@ use mathlib.Core.Path.{_≡_, refl, sym, ap, _∙_}
 use mathlib.Core.List.{List, [], _∷_, _++_, map, map-append, append-nil, append-assoc}
 use mathlib.Core.Bool.{true}
 use lib.ListN.{length, getD, take, drop, set, replicate, length-append, length-map, length-drop, length-replicate, drop-of-length-le, replicate-append-replicate}
-use lib.Seq.{take-all, take-suc}
+use lib.Seq.{length-take-le, take-at, take-all, take-suc}
 use borrow.Author.Tests.{eq-eqb, ne-eqb, eqb-true}
 use borrow.Rule.Slice.PartMut.{midOf, putMid}
 use Rattle.profile.specs.Lists.{chunks, over}
 use Rattle.profile.proofs.Laws.{and-left, and-right, chunks-more, chunk-room}
+use Rattle.level.specs.declared.Line.{Line}
+use Rattle.level.specs.Fieldwords.{lineWords}
+use Rattle.level.proofs.Words.{line-words-length}
 use Rattle.holdlist.specs.declared.Step.{Step}
 use Rattle.holdlist.specs.Runs.{none, flush, pushed, opened, closed, runs, countOf, wordOf, countsOf, wordsOf}
 use Rattle.holdlist.specs.Fills.{lay, Lays, Fills, Alike, same}
@@ -248,3 +251,20 @@ pub alike-few :
     {o h : Step} {xs cs ws cs′ ws′ : List ℕ} {n w i j : ℕ} →
     Alike xs w i j → Fills o (replicate (j - i) w) cs ws n h cs′ ws′ → n ≤ j - i
 alike-few {w = w} {i = i} {j = j} a f = omega (arith, filling f, length-replicate (j - i) w)
+
+-- ---- a line's words by way of a buffer
+
+pub fills-as :
+    {o h : Step} {xs ys cs ws cs′ ws′ : List ℕ} {n : ℕ} → xs ≡ ys → Fills o xs cs ws n h cs′ ws′ → Fills o ys cs ws n h cs′ ws′
+fills-as e f = rw (← e) f
+
+-- the front of a buffer that was lent and filled with a line's words
+pub filled-front :
+    (n : ℕ) (line : Line) (b p : List ℕ) → n ≤ length b → p ≡ lineWords line (length (midOf 0 (n - 0) b)) →
+    midOf 0 (n - 0) (putMid 0 (n - 0) b p) ≡ lineWords line n
+filled-front n line b p h e =
+    let z : n - 0 ≡ n = omega arith in
+    let l : length (midOf 0 (n - 0) b) ≡ n = rw z (length-take-le n b h) in
+    let q : p ≡ lineWords line n = e ∙ ap (lineWords line) l in
+    let m : length p ≡ n = ap length q ∙ line-words-length line n in
+    rw z (take-at p (drop n b) n m) ∙ q

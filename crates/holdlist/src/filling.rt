@@ -1,12 +1,15 @@
-// Words pushed onto the open step.
+// Words pushed onto the open step: a line's, a region's, a field's.
 ghost use mathlib.Core.Path.{_≡_};
 ghost use Prim.Native.Nat.{_+_, _<_, _≤_, _^_};
 ghost use lib.ListN.{length, getD};
+ghost use Rattle.level.specs.Fieldwords.{lineWords};
 ghost use Rattle.holdlist.specs.Fills.{Fills, Alike, same};
 use crate::Step;
 use crate::steps::Filled;
 use crate::steps::hold;
 use crate::steps::least;
+use level::Line;
+use level::fill;
 
 // Whether the eight words from `at` on are all `word`: one test, so that they are compared side by side.
 fn eight(line: &[u16], at: usize, word: u16) -> bool
@@ -76,4 +79,24 @@ pub(crate) fn hold_words(o: Step, line: &[u16], counts: &mut [u32], words: &mut 
         at = end;
     }
     Filled { steps: used, held }
+}
+
+// The first n pixels of a line are pushed; their words are made in a lent buffer.
+fn buffer_line(line: Line, n: usize, o: Step, buffer: &mut [u16], counts: &mut [u32], words: &mut [u16]) -> Filled
+    requires { ⌜ n ≤ length (now buffer) ⌝ }
+    requires { ⌜ o .count + n < 2 ^ 32 ⌝ }
+    ensures { λ r. ⌜ Fills o (lineWords line n) (now (counts .entry)) (now (words .entry)) (r .steps) (r .held) (now (counts .exit)) (now (words .exit)) ⌝ }
+{
+    fill(line, &mut buffer[0..n]);
+    hold_words(o, &buffer[0..n], counts, words)
+}
+
+// The same with a buffer of its own, of the longest line of a field.
+fn fill_line(line: Line, n: usize, o: Step, counts: &mut [u32], words: &mut [u16]) -> Filled
+    requires { ⌜ n ≤ 4095 ⌝ }
+    requires { ⌜ o .count + n < 2 ^ 32 ⌝ }
+    ensures { λ r. ⌜ Fills o (lineWords line n) (now (counts .entry)) (now (words .entry)) (r .steps) (r .held) (now (counts .exit)) (now (words .exit)) ⌝ }
+{
+    let mut buffer = [0u16; 4095];
+    buffer_line(line, n, o, &mut buffer, counts, words)
 }
