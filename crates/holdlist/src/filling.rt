@@ -1,15 +1,27 @@
 // Words pushed onto the open step: a line's, a region's, a field's.
 ghost use mathlib.Core.Path.{_≡_};
-ghost use Prim.Native.Nat.{_+_, _<_, _≤_, _^_};
+ghost use Prim.Native.Nat.{ℕ, _+_, _<_, _≤_, _^_};
 ghost use lib.ListN.{length, getD};
-ghost use Rattle.level.specs.Fieldwords.{lineWords};
-ghost use Rattle.holdlist.specs.Fills.{Fills, Alike, same};
+ghost use Rattle.profile.specs.Values.{accepted};
+ghost use Rattle.profile.specs.Geometry.{regionCount, lineLength};
+ghost use Rattle.profile.specs.Rules.{checkProfile};
+ghost use Rattle.level.specs.Fieldwords.{lineWords, fieldWords};
+ghost use Rattle.holdlist.specs.Compile.{linesWords, regionWords};
+ghost use Rattle.holdlist.specs.Runs.{none, runs};
+ghost use Rattle.holdlist.specs.Fills.{Lays, Fills, Alike, same};
 use crate::Step;
 use crate::steps::Filled;
+use crate::steps::finish;
 use crate::steps::hold;
 use crate::steps::least;
 use level::Line;
 use level::fill;
+use level::line_of;
+use profile::Field;
+use profile::Tables;
+use profile::end_line;
+use profile::region_at;
+use profile::region_count;
 
 // Whether the eight words from `at` on are all `word`: one test, so that they are compared side by side.
 fn eight(line: &[u16], at: usize, word: u16) -> bool
@@ -99,4 +111,74 @@ fn fill_line(line: Line, n: usize, o: Step, counts: &mut [u32], words: &mut [u16
 {
     let mut buffer = [0u16; 4095];
     buffer_line(line, n, o, &mut buffer, counts, words)
+}
+
+// n lines of a field from line `first` on are pushed, each given only what is free of both lists.
+fn fill_lines(tables: Tables, field: Field, first: u64, n: u64, o: Step, counts: &mut [u32], words: &mut [u16]) -> Filled
+    requires { ⌜ first + n ≤ field .lines ⌝ }
+    requires { ⌜ (line : ℕ) → lineLength tables field line ≤ 4095 ⌝ }
+    requires { ⌜ o .count + length (linesWords tables field first n) < 2 ^ 32 ⌝ }
+    ensures { λ r. ⌜ Fills o (linesWords tables field first n) (now (counts .entry)) (now (words .entry)) (r .steps) (r .held) (now (counts .exit)) (now (words .exit)) ⌝ }
+{
+    let mut held = o;
+    let mut used: usize = 0;
+    let mut k: u64 = 0;
+    while k < n {
+        let line = line_of(tables, field, first + k);
+        let c = least(used, counts.len());
+        let d = least(used, words.len());
+        let r = fill_line(line, line.length as usize, held, &mut counts[c..], &mut words[d..]);
+        let next = r.held;
+        held = next;
+        used += r.steps;
+        k += 1;
+    }
+    Filled { steps: used, held }
+}
+
+// Region i is pushed: its writer gets the open step, and what is free of both lists after the steps already used.
+fn fill_region(tables: Tables, field: Field, i: usize, o: Step, counts: &mut [u32], words: &mut [u16]) -> Filled
+    requires { ⌜ checkProfile (record { tables = tables; field = field }) ≡ accepted ⌝ }
+    requires { ⌜ i < regionCount field ⌝ }
+    requires { ⌜ o .count + length (regionWords tables field i) < 2 ^ 32 ⌝ }
+    ensures { λ r. ⌜ Fills o (regionWords tables field i) (now (counts .entry)) (now (words .entry)) (r .steps) (r .held) (now (counts .exit)) (now (words .exit)) ⌝ }
+{
+    let region = region_at(field, i);
+    let first = region.first;
+    let n = end_line(field, i) - first;
+    fill_lines(tables, field, first as u64, n as u64, o, counts, words)
+}
+
+// All regions in order.
+fn fill_regions(tables: Tables, field: Field, counts: &mut [u32], words: &mut [u16]) -> Filled
+    requires { ⌜ checkProfile (record { tables = tables; field = field }) ≡ accepted ⌝ }
+    ensures { λ r. ⌜ Fills none (fieldWords tables field) (now (counts .entry)) (now (words .entry)) (r .steps) (r .held) (now (counts .exit)) (now (words .exit)) ⌝ }
+{
+    let n = region_count(field);
+    let mut held = Step { count: 0, word: 0 };
+    let mut used: usize = 0;
+    let mut i: usize = 0;
+    while i < n {
+        let c = least(used, counts.len());
+        let d = least(used, words.len());
+        let r = fill_region(tables, field, i, held, &mut counts[c..], &mut words[d..]);
+        let next = r.held;
+        held = next;
+        used += r.steps;
+        i += 1;
+    }
+    Filled { steps: used, held }
+}
+
+// The whole field, its last step closed: written as far as there is room, and always counted.
+pub(crate) fn fill_field(tables: Tables, field: Field, counts: &mut [u32], words: &mut [u16]) -> usize
+    requires { ⌜ checkProfile (record { tables = tables; field = field }) ≡ accepted ⌝ }
+    ensures { λ r. ⌜ Lays (runs (fieldWords tables field)) (now (counts .entry)) (now (words .entry)) r (now (counts .exit)) (now (words .exit)) ⌝ }
+{
+    let filled = fill_regions(tables, field, counts, words);
+    let used = filled.steps;
+    let held = filled.held;
+    let c = least(used, counts.len());
+    let d = least(used, words.len());
+    used + finish(held, &mut counts[c..], &mut words[d..])
 }

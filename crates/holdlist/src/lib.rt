@@ -1,10 +1,12 @@
 // Hold lists: u32 counts beside u16 words. A field is compiled into the shortest list that plays it.
 use profile::Verdict;
 
+mod compiling;
 mod filling;
 mod playing;
 mod steps;
 
+pub use compiling::compile;
 pub use playing::play;
 
 // A word held for a number of positions.

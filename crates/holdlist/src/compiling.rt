@@ -1,0 +1,32 @@
+// A field compiled into the shortest hold list, in two passes of one writer: the first is given no room and counts, the second fills.
+ghost use mathlib.Core.Path.{_≡_};
+ghost use lib.ListN.{length};
+ghost use Rattle.holdlist.specs.Compile.{roomOf, compileAnswer, compileCounts, compileWords};
+use crate::Compiled;
+use crate::filling::fill_field;
+use crate::steps::least;
+use profile::Profile;
+use profile::accept;
+use profile::check;
+use profile::pixel_count;
+use profile::refuse;
+
+// Compiles a profile's field into two lent lists: the check's refusal, 18 with the steps needed, or the steps used and the pixels.
+pub fn compile(profile: Profile, counts: &mut [u32], words: &mut [u16]) -> Compiled
+    ensures { λ r. ⌜ r ≡ compileAnswer profile (roomOf (now (counts .entry)) (now (words .entry))) ⌝ }
+    ensures { λ r. ⌜ now (counts .exit) ≡ compileCounts profile (roomOf (now (counts .entry)) (now (words .entry))) (now (counts .entry)) ⌝ }
+    ensures { λ r. ⌜ now (words .exit) ≡ compileWords profile (roomOf (now (counts .entry)) (now (words .entry))) (now (words .entry)) ⌝ }
+{
+    let verdict = check(profile);
+    if verdict.number != 0 {
+        return Compiled { verdict, steps: 0, pixels: 0 };
+    }
+    let tables = profile.tables;
+    let field = profile.field;
+    let need = fill_field(tables, field, &mut counts[0..0], &mut words[0..0]);
+    if least(counts.len(), words.len()) < need {
+        return Compiled { verdict: refuse(18, need as u64), steps: 0, pixels: 0 };
+    }
+    let steps = fill_field(tables, field, counts, words);
+    Compiled { verdict: accept(), steps, pixels: pixel_count(tables, field) }
+}
