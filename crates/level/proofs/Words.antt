@@ -1,8 +1,8 @@
 -- The words of lines and of a field: each is below 2 ^ 14, and field pixel n is the pixel of one line, found either way round. Every level is
 -- a number mod 2, and a line starts where the lengths of the lines before it add up to.
 -- Assumes nothing.
-use mathlib.Core.Path.{_≡_, sym, ap, _∙_}
-use mathlib.Core.Bool.{true, _&&_}
+use mathlib.Core.Path.{_≡_, refl, sym, ap, _∙_}
+use mathlib.Core.Bool.{Bool, true, false, _&&_, _||_}
 use mathlib.Core.List.{List}
 use Prim.Native.Nat.{ℕ, _+_, _*_, _-_, _%_, _^_, _≤_, _<_}
 use native.Mathlib.Omega.{arith}
@@ -146,6 +146,12 @@ line-words-length l n = length-ones n (wordOf l)
 pub line-words-at : (l : Line) (n p : ℕ) → p < n → getD (lineWords l n) p 0 ≡ wordOf l p
 unfolding lineWords
 line-words-at l n p h = getD-ones n (wordOf l) 0 p h
+
+-- ---- one of one number
+
+pub or-none : (b : Bool) → b || false ≡ b
+or-none true = refl
+or-none false = refl
 
 -- ---- the line of a number that the field has
 

@@ -1,6 +1,8 @@
 // The word of 14 output levels at every line and pixel of a field. A line holds where everything acts on it; the word says the levels.
+mod lines;
 mod outputs;
 
+pub use lines::line_of;
 pub use outputs::fill;
 pub use outputs::word_of;
 use profile::Mode;

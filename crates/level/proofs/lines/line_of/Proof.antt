@@ -1,0 +1,46 @@
+-- Past the last line there is none; before it the line is that of its region, and its number fits 16 bits.
+-- Assumes nothing.
+use mathlib.Core.Path.{_∙_, ap}
+use borrow.Author.Tests.{lt-ltb, le-ltb}
+use Rattle.level.specs.Line.{lineIn, lineOf}
+use borrow.Author.Needs.{needs}
+use Rattle.level.proofs.lines.line_of.Statement.{statement}
+use Rattle.level.proofs.lines.line_of.Tie as tie
+
+cast-if1 : tie.Need-cast-if1
+cast-if1 c = search needs
+
+no-line-requires : tie.Need-no-line-requires
+no-line-requires c κs = search needs
+
+returns : tie.Need-returns
+unfolding lineOf
+returns c = rw (le-ltb _ _ (c .before .if1 .taken)) (c .no-line .ensures)
+
+cast-line-in : tie.Need-cast-line-in
+cast-line-in c = search needs
+
+region-of-requires : tie.Need-region-of-requires
+region-of-requires c κs = search needs
+
+line-in-requires : tie.Need-line-in-requires
+line-in-requires c κs = search needs
+
+returns-2 : tie.Need-returns-2
+unfolding lineOf
+returns-2 c =
+    let e = c .before .before in
+    let a = e .before .before .args in
+    rw (lt-ltb _ _ (e .if1 .left)) (c .line-in .ensures ∙ ap (lineIn (a .tables) (a .field) (a .line)) (c .before .region-of .ensures .0))
+
+pub line-of-spec : {M : Type 1} → statement M
+line-of-spec =
+    tie.close
+    (tie.spec
+    cast-if1
+    no-line-requires
+    returns
+    cast-line-in
+    region-of-requires
+    line-in-requires
+    returns-2)

@@ -1,0 +1,256 @@
+// The line of a number: where everything acts on it, worked out from the tables and the field once a line.
+use crate::Line;
+use crate::Mask;
+use crate::Pulse;
+use crate::Span;
+use profile::Field;
+use profile::Gate;
+use profile::Mode;
+use profile::Pattern;
+use profile::Shutter;
+use profile::Subck;
+use profile::Tables;
+use profile::length_in;
+use profile::pattern_of;
+use profile::region_at;
+use profile::region_of;
+use profile::region_pixels;
+use profile::repetitions;
+use profile::sequence_of;
+ghost use Prim.Native.Nat.{_<_};
+ghost use mathlib.Core.Path.{_≡_};
+ghost use mathlib.Core.Bool.{_&&_};
+ghost use mathlib.Core.List.{[], _∷_};
+ghost use lib.ListN.{getD};
+ghost use Rattle.profile.specs.Values.{emptyGate};
+ghost use Rattle.profile.specs.Geometry.{regionPixels, gateLines};
+ghost use Rattle.profile.specs.Rules.{pairOn, hasSecond};
+ghost use Rattle.level.specs.Line.{among, gateHere, subckHere, opensAt, closesAt, shutterHere, emptyPattern, lineIn, noLine, lineOf};
+
+// The first pattern's pixels before a line of region i.
+fn origin_of(tables: Tables, field: Field, i: usize, line: u16) -> u32
+    ensures { λ r. ⌜ r ≡ regionPixels tables field i line ⌝ }
+{
+    region_pixels(tables, field, i, line) as u32
+}
+
+// A freeze and resume pair, turned on by its bit of the mask.
+fn mask_of(mask: u16, bit: u16, freeze: u16, resume: u16) -> Mask
+    requires { ⌜ 0 < bit ⌝ }
+    ensures { λ r. ⌜ r ≡ record { on = pairOn mask bit; freeze = freeze; resume = resume } ⌝ }
+{
+    Mask {
+        on: mask / bit % 2 == 1,
+        freeze: freeze,
+        resume: resume,
+    }
+}
+
+// Whether gates and the second pattern act on a line.
+fn on_gate_line(field: Field, line: u16) -> bool
+    ensures { λ r. ⌜ r ≡ among line (gateLines field) ⌝ }
+{
+    line == field.gate
+}
+
+// Whether there is a second pattern, and it acts here.
+fn doubles(field: Field, here: bool) -> bool
+    ensures { λ r. ⌜ r ≡ (hasSecond field && here) ⌝ }
+{
+    (field.second != 65535) & here
+}
+
+// A gate on a line.
+fn gate_here(gate: Gate, here: bool) -> Pulse
+    ensures { λ r. ⌜ r ≡ gateHere gate here ⌝ }
+{
+    if gate.present {
+        return Pulse {
+            acts: (gate.on == 1) & here,
+            level: gate.level,
+            toggle1: gate.toggle1,
+            toggle2: gate.toggle2,
+        };
+    }
+    Pulse {
+        acts: false,
+        level: 1,
+        toggle1: 0,
+        toggle2: 0,
+    }
+}
+
+// VSG1 to VSG5 on a line.
+fn gates_here(gates: [Gate; 5], here: bool) -> [Pulse; 5]
+    ensures { λ r. ⌜ r ≡ gateHere (getD gates 0 emptyGate) here ∷ gateHere (getD gates 1 emptyGate) here ∷ gateHere (getD gates 2 emptyGate) here ∷ gateHere (getD gates 3 emptyGate) here ∷ gateHere (getD gates 4 emptyGate) here ∷ [] ⌝ }
+{
+    [
+        gate_here(gates[0], here),
+        gate_here(gates[1], here),
+        gate_here(gates[2], here),
+        gate_here(gates[3], here),
+        gate_here(gates[4], here),
+    ]
+}
+
+// SUBCK on a line: it acts from the line after the suppressed ones on, as often as its count says.
+fn subck_here(subck: Subck, gate: u16, line: u16) -> Pulse
+    ensures { λ r. ⌜ r ≡ subckHere subck gate line ⌝ }
+{
+    if subck.present {
+        let from = (gate as u32) + (subck.suppressed as u32);
+        let to = from + (subck.count as u32);
+        return Pulse {
+            acts: (from <= (line as u32)) & ((line as u32) < to),
+            level: subck.level,
+            toggle1: subck.toggle1,
+            toggle2: subck.toggle2,
+        };
+    }
+    Pulse {
+        acts: false,
+        level: 1,
+        toggle1: 0,
+        toggle2: 0,
+    }
+}
+
+// The pixel from which a shutter is active, on its lines.
+fn opens_at(shutter: Shutter, line: u16) -> u16
+    ensures { λ r. ⌜ r ≡ opensAt shutter line ⌝ }
+{
+    if line == shutter.on_line {
+        return shutter.on_pixel;
+    }
+    0
+}
+
+// The pixel from which it is active no more.
+fn closes_at(shutter: Shutter, line: u16, length: u16) -> u16
+    ensures { λ r. ⌜ r ≡ closesAt shutter line length ⌝ }
+{
+    if line == shutter.off_line {
+        return shutter.off_pixel;
+    }
+    length
+}
+
+// A shutter on a line of the given length.
+fn shutter_here(shutter: Shutter, line: u16, length: u16) -> Span
+    ensures { λ r. ⌜ r ≡ shutterHere shutter line length ⌝ }
+{
+    if !shutter.present {
+        return Span {
+            level: 1,
+            from: 0,
+            to: 0,
+        };
+    }
+    if (shutter.on_line <= line) & (line <= shutter.off_line) {
+        return Span {
+            level: shutter.active,
+            from: opens_at(shutter, line),
+            to: closes_at(shutter, line, length),
+        };
+    }
+    Span {
+        level: shutter.active,
+        from: 0,
+        to: 0,
+    }
+}
+
+// A line of region i.
+fn line_in(tables: Tables, field: Field, line: u16, i: usize) -> Line
+    ensures { λ r. ⌜ r ≡ lineIn tables field line i ⌝ }
+{
+    let region = region_at(field, i);
+    let mode = region.mode;
+    let sequence = sequence_of(tables, region.sequence);
+    let registers = tables.registers;
+    let pattern = pattern_of(registers, sequence.pattern);
+    let length = length_in(tables, field, i, line as u64);
+    let here = on_gate_line(field, line);
+    let gates = tables.gates;
+    let subck = tables.subck;
+    let shutters = tables.shutters;
+    Line {
+        length: length,
+        mode: mode,
+        pattern: pattern,
+        start: sequence.start,
+        origin: origin_of(tables, field, i, line),
+        repetitions: repetitions(sequence, line as u64),
+        mask1: mask_of(sequence.mask, 1, pattern.freeze1, pattern.resume1),
+        mask2: mask_of(sequence.mask, 2, pattern.freeze2, pattern.resume2),
+        double: doubles(field, here),
+        second: pattern_of(registers, field.second),
+        gates: gates_here(gates, here),
+        subck: subck_here(subck, field.gate, line),
+        mshut: shutter_here(shutters[0], line, length),
+        strobe: shutter_here(shutters[1], line, length),
+    }
+}
+
+// A pattern of zeros.
+fn no_pattern() -> Pattern
+    ensures { λ r. ⌜ r ≡ emptyPattern ⌝ }
+{
+    Pattern {
+        levels: 0,
+        length: 0,
+        toggles: [0u16; 18],
+        freeze1: 0,
+        resume1: 0,
+        freeze2: 0,
+        resume2: 0,
+    }
+}
+
+// The line of a number that the field does not have.
+fn no_line() -> Line
+    ensures { λ r. ⌜ r ≡ noLine ⌝ }
+{
+    let mask = Mask {
+        on: false,
+        freeze: 0,
+        resume: 0,
+    };
+    let pulse = Pulse {
+        acts: false,
+        level: 0,
+        toggle1: 0,
+        toggle2: 0,
+    };
+    let span = Span {
+        level: 0,
+        from: 0,
+        to: 0,
+    };
+    Line {
+        length: 0,
+        mode: Mode::Plain,
+        pattern: no_pattern(),
+        start: 0,
+        origin: 0,
+        repetitions: 0,
+        mask1: mask,
+        mask2: mask,
+        double: false,
+        second: no_pattern(),
+        gates: [pulse; 5],
+        subck: pulse,
+        mshut: span,
+        strobe: span,
+    }
+}
+
+// The line of a number; nothing acts on a line that the field does not have.
+pub fn line_of(tables: Tables, field: Field, line: u64) -> Line
+    ensures { λ r. ⌜ r ≡ lineOf tables field line ⌝ }
+{
+    if (field.lines as u64) <= line {
+        return no_line();
+    }
+    line_in(tables, field, line as u16, region_of(field, line))
+}
