@@ -5,3 +5,4 @@ pub mod Shortest
 pub mod Demanded
 pub mod Fills
 pub mod Passes
+pub mod FieldLoops

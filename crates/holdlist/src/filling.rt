@@ -116,7 +116,7 @@ fn fill_line(line: Line, n: usize, o: Step, counts: &mut [u32], words: &mut [u16
 // n lines of a field from line `first` on are pushed, each given only what is free of both lists.
 fn fill_lines(tables: Tables, field: Field, first: u64, n: u64, o: Step, counts: &mut [u32], words: &mut [u16]) -> Filled
     requires { ⌜ first + n ≤ field .lines ⌝ }
-    requires { ⌜ (line : ℕ) → lineLength tables field line ≤ 4095 ⌝ }
+    requires { ⌜ ((line : ℕ) → lineLength tables field line ≤ 4095) ⌝ }
     requires { ⌜ o .count + length (linesWords tables field first n) < 2 ^ 32 ⌝ }
     ensures { λ r. ⌜ Fills o (linesWords tables field first n) (now (counts .entry)) (now (words .entry)) (r .steps) (r .held) (now (counts .exit)) (now (words .exit)) ⌝ }
 {
