@@ -19,14 +19,26 @@ pub fn compile(profile: Profile, counts: &mut [u32], words: &mut [u16]) -> Compi
 {
     let verdict = check(profile);
     if verdict.number != 0 {
-        return Compiled { verdict, steps: 0, pixels: 0 };
+        return Compiled {
+            verdict,
+            steps: 0,
+            pixels: 0,
+        };
     }
     let tables = profile.tables;
     let field = profile.field;
     let need = fill_field(tables, field, &mut counts[0..0], &mut words[0..0]);
     if least(counts.len(), words.len()) < need {
-        return Compiled { verdict: refuse(18, need as u64), steps: 0, pixels: 0 };
+        return Compiled {
+            verdict: refuse(18, need as u64),
+            steps: 0,
+            pixels: 0,
+        };
     }
     let steps = fill_field(tables, field, counts, words);
-    Compiled { verdict: accept(), steps, pixels: pixel_count(tables, field) }
+    Compiled {
+        verdict: accept(),
+        steps,
+        pixels: pixel_count(tables, field),
+    }
 }

@@ -94,7 +94,14 @@ pub(crate) fn hold_words(o: Step, line: &[u16], counts: &mut [u32], words: &mut 
 }
 
 // The first n pixels of a line are pushed; their words are made in a lent buffer.
-fn buffer_line(line: Line, n: usize, o: Step, buffer: &mut [u16], counts: &mut [u32], words: &mut [u16]) -> Filled
+fn buffer_line(
+    line: Line,
+    n: usize,
+    o: Step,
+    buffer: &mut [u16],
+    counts: &mut [u32],
+    words: &mut [u16],
+) -> Filled
     requires { ⌜ n ≤ length (now buffer) ⌝ }
     requires { ⌜ o .count + n < 2 ^ 32 ⌝ }
     ensures { λ r. ⌜ Fills o (lineWords line n) (now (counts .entry)) (now (words .entry)) (r .steps) (r .held) (now (counts .exit)) (now (words .exit)) ⌝ }
@@ -114,7 +121,15 @@ fn fill_line(line: Line, n: usize, o: Step, counts: &mut [u32], words: &mut [u16
 }
 
 // n lines of a field from line `first` on are pushed, each given only what is free of both lists.
-fn fill_lines(tables: Tables, field: Field, first: u64, n: u64, o: Step, counts: &mut [u32], words: &mut [u16]) -> Filled
+fn fill_lines(
+    tables: Tables,
+    field: Field,
+    first: u64,
+    n: u64,
+    o: Step,
+    counts: &mut [u32],
+    words: &mut [u16],
+) -> Filled
     requires { ⌜ first + n ≤ field .lines ⌝ }
     requires { ⌜ ((line : ℕ) → lineLength tables field line ≤ 4095) ⌝ }
     requires { ⌜ o .count + length (linesWords tables field first n) < 2 ^ 32 ⌝ }
@@ -127,7 +142,13 @@ fn fill_lines(tables: Tables, field: Field, first: u64, n: u64, o: Step, counts:
         let line = line_of(tables, field, first + k);
         let c = least(used, counts.len());
         let d = least(used, words.len());
-        let r = fill_line(line, line.length as usize, held, &mut counts[c..], &mut words[d..]);
+        let r = fill_line(
+            line,
+            line.length as usize,
+            held,
+            &mut counts[c..],
+            &mut words[d..],
+        );
         let next = r.held;
         held = next;
         used += r.steps;
@@ -137,7 +158,14 @@ fn fill_lines(tables: Tables, field: Field, first: u64, n: u64, o: Step, counts:
 }
 
 // Region i is pushed: its writer gets the open step, and what is free of both lists after the steps already used.
-fn fill_region(tables: Tables, field: Field, i: usize, o: Step, counts: &mut [u32], words: &mut [u16]) -> Filled
+fn fill_region(
+    tables: Tables,
+    field: Field,
+    i: usize,
+    o: Step,
+    counts: &mut [u32],
+    words: &mut [u16],
+) -> Filled
     requires { ⌜ checkProfile (record { tables = tables; field = field }) ≡ accepted ⌝ }
     requires { ⌜ i < regionCount field ⌝ }
     requires { ⌜ o .count + length (regionWords tables field i) < 2 ^ 32 ⌝ }
@@ -171,7 +199,12 @@ fn fill_regions(tables: Tables, field: Field, counts: &mut [u32], words: &mut [u
 }
 
 // The whole field, its last step closed: written as far as there is room, and always counted.
-pub(crate) fn fill_field(tables: Tables, field: Field, counts: &mut [u32], words: &mut [u16]) -> usize
+pub(crate) fn fill_field(
+    tables: Tables,
+    field: Field,
+    counts: &mut [u32],
+    words: &mut [u16],
+) -> usize
     requires { ⌜ checkProfile (record { tables = tables; field = field }) ≡ accepted ⌝ }
     ensures { λ r. ⌜ Lays (runs (fieldWords tables field)) (now (counts .entry)) (now (words .entry)) r (now (counts .exit)) (now (words .exit)) ⌝ }
 {

@@ -39,7 +39,7 @@ same-length-3 : tie.Need-same-length-3
 same-length-3 c = search needs
 
 returns : tie.Need-returns
-returns c = 
+returns c =
     let h = c .before .before .before .before in
     let s = h .before .before .before .before .before .before .before .before .before .before .before .before in
     let a = s .args in

@@ -4,9 +4,7 @@ use Prim.Native.Nat.{ℕ, _+_, _-_, _*_, _≤_, _<_, _^_}
 use mathlib.Core.Path.{_≡_, ap}
 use Rattle.level.proofs.Words.{line-words-length}
 use lib.ListN.{length}
-use borrow.Author.Count.{falls}
 use Rattle.profile.specs.Geometry.{lineLength}
-use Rattle.level.specs.declared.Line.{Line}
 use Rattle.holdlist.specs.Compile.{linesWords}
 use Rattle.holdlist.proofs.Fills.{Filling, filling, fills-as}
 use Rattle.holdlist.proofs.FieldLoops.{lines-start, made-length, lines-more, lines-counted, lines-room}
@@ -64,14 +62,14 @@ part-fill-line-end-2 : tie.Need-part-fill-line-end-2 Inv-loop μ-loop
 part-fill-line-end-2 c = omega arith
 
 fill-line-requires : tie.Need-fill-line-requires Inv-loop μ-loop
-fill-line-requires c κs = 
+fill-line-requires c κs =
     let l = c .before .before .before .before .before .before .before .loop in
     let a = c .before .before .before .before .before .before .before .before .before .before .args in
     let e = made-length (a .tables) (a .field) (a .first) (l .k) (c .before .before .before .before .before .line-of .ensures) (omega arith) in
     (rw e (l .inv .2 (a .first + l .k)), rw e (lines-counted (a .tables) (a .field) (a .first) (l .k) (a .n) (l .inv .4) (omega arith) (l .inv .3)))
 
 add-used : tie.Need-add-used Inv-loop μ-loop
-add-used c = 
+add-used c =
     let l = c .before .before .before .before .before .before .before .before .before .before .before .before .before .before .loop in
     let a = c .before .before .before .before .before .before .before .before .before .before .before .before .before .before .before .before .before .args in
     let e = made-length (a .tables) (a .field) (a .first) (l .k) (c .before .before .before .before .before .before .before .before .before .before .before .before .line-of .ensures) (omega arith) in
@@ -84,10 +82,9 @@ loop-less : tie.Need-loop-less Inv-loop μ-loop
 loop-less c = search needs
 
 loop-again : tie.Need-loop-again Inv-loop μ-loop
-loop-again c = 
+loop-again c =
     let l = c .before .before .before .before .before .before .before .before .before .before .before .before .before .before .loop in
-    let a = c .before .before .before .before .before .before .before .before .before .before .before .before .before .before .before .before .before .args in
-    (
+    let a = c .before .before .before .before .before .before .before .before .before .before .before .before .before .before .before .before .before .args in (
       omega arith,
       l .inv .1,
       l .inv .2,
@@ -105,7 +102,7 @@ same-length-2 : tie.Need-same-length-2 Inv-loop μ-loop
 same-length-2 c = omega arith
 
 returns : tie.Need-returns Inv-loop μ-loop
-returns c = 
+returns c =
     let l = c .before .loop in
     let a = c .before .before .before .before .args in
     let e : l .k ≡ a .n = omega arith in

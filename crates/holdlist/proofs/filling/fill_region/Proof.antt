@@ -1,10 +1,8 @@
 -- The region's lines are those from its first up to its end, which an accepted field has in order.
 -- Assumes nothing.
-use Prim.Native.Nat.{ℕ, _+_, _-_, _<_, _^_}
-use mathlib.Core.Path.{_≡_, ap}
-use lib.ListN.{length}
+use Prim.Native.Nat.{_-_}
+use mathlib.Core.Path.{ap}
 use Rattle.profile.specs.declared.Region.{Region}
-use Rattle.profile.specs.Geometry.{firstLine, endLine}
 use Rattle.holdlist.specs.Compile.{linesWords}
 use Rattle.holdlist.proofs.Fills.{fills-as}
 use Rattle.holdlist.proofs.FieldLoops.{short-lines, region-starts, region-ends}
@@ -20,7 +18,7 @@ end-line-requires : tie.Need-end-line-requires
 end-line-requires c κs = search needs
 
 sub-n : tie.Need-sub-n
-sub-n c = 
+sub-n c =
     let s = c .before .before .before .before in
     let a = s .args in
     let e = ap (λ (r : Region). r .first) (c .before .region-at .ensures) in
@@ -33,12 +31,11 @@ cast-fill-lines-2 : tie.Need-cast-fill-lines-2
 cast-fill-lines-2 c = search needs
 
 fill-lines-requires : tie.Need-fill-lines-requires
-fill-lines-requires c κs = 
+fill-lines-requires c κs =
     let s = c .before .before .before .before .before .before in
     let a = s .args in
     let e = ap (λ (r : Region). r .first) (c .before .before .before .region-at .ensures) in
-    let d = c .before .before .end-line .ensures in
-    (
+    let d = c .before .before .end-line .ensures in (
       omega (arith, e, d, region-starts (a .tables) (a .field) (s .pre .0) (a .i) (s .pre .1 .0), region-ends (a .tables) (a .field) (s .pre .0) (a .i)),
       (short-lines (a .tables) (a .field) (s .pre .0), rw (e, d) (s .pre .1 .1)),
     )
@@ -50,7 +47,7 @@ same-length-2 : tie.Need-same-length-2
 same-length-2 c = search needs
 
 returns : tie.Need-returns
-returns c = 
+returns c =
     let a = c .before .before .before .before .before .before .before .before .before .before .before .args in
     let e = ap (λ (r : Region). r .first) (c .before .before .before .before .before .before .before .before .region-at .ensures) in
     let d = c .before .before .before .before .before .before .before .end-line .ensures in

@@ -1,7 +1,7 @@
 -- The loop has pushed the regions passed; the next region's writer gets what is free of both lists after the steps already used.
 -- Assumes nothing.
-use Prim.Native.Nat.{ℕ, _+_, _-_, _*_, _≤_, _<_, _^_}
-use mathlib.Core.Path.{_≡_, ap}
+use Prim.Native.Nat.{_-_, _*_, _≤_, _<_, _^_}
+use mathlib.Core.Path.{_≡_}
 use lib.ListN.{length}
 use Rattle.profile.specs.Lists.{chunks}
 use Rattle.profile.specs.Values.{accepted}
@@ -59,13 +59,13 @@ part-fill-region-end-2 : tie.Need-part-fill-region-end-2 Inv-loop μ-loop
 part-fill-region-end-2 c = omega arith
 
 fill-region-requires : tie.Need-fill-region-requires Inv-loop μ-loop
-fill-region-requires c κs = 
+fill-region-requires c κs =
     let l = c .before .before .before .before .before .loop in
     let a = c .before .before .before .before .before .before .before .before .before .args in
     (l .inv .3, (omega arith, regions-counted (a .tables) (a .field) (l .inv .3) (l .i) (l .inv .4) (omega arith)))
 
 add-used : tie.Need-add-used Inv-loop μ-loop
-add-used c = 
+add-used c =
     let l = c .before .before .before .before .before .before .before .before .before .before .before .before .loop in
     let a = c .before .before .before .before .before .before .before .before .before .before .before .before .before .before .before .before .args in
     omega (arith, l .inv, filling (c .before .before .before .before .before .before .fill-region .ensures), regions-room (a .tables) (a .field) (l .inv .3) (l .i) (omega arith))
@@ -77,10 +77,9 @@ loop-less : tie.Need-loop-less Inv-loop μ-loop
 loop-less c = search needs
 
 loop-again : tie.Need-loop-again Inv-loop μ-loop
-loop-again c = 
+loop-again c =
     let l = c .before .before .before .before .before .before .before .before .before .before .before .before .loop in
-    let a = c .before .before .before .before .before .before .before .before .before .before .before .before .before .before .before .before .args in
-    (
+    let a = c .before .before .before .before .before .before .before .before .before .before .before .before .before .before .before .before .args in (
       omega arith,
       l .inv .1,
       l .inv .2,
@@ -97,7 +96,7 @@ same-length-2 : tie.Need-same-length-2 Inv-loop μ-loop
 same-length-2 c = omega arith
 
 returns : tie.Need-returns Inv-loop μ-loop
-returns c = 
+returns c =
     let l = c .before .loop in
     let a = c .before .before .before .before .before .args in
     let e : l .i ≡ regionCount (a .field) = omega arith in
