@@ -1,10 +1,13 @@
 // The word of 14 output levels at every line and pixel of a field. A line holds where everything acts on it; the word says the levels.
 mod lines;
 mod outputs;
+mod place;
 
 pub use lines::line_of;
 pub use outputs::fill;
 pub use outputs::word_of;
+pub use place::level;
+pub use place::locate;
 use profile::Mode;
 use profile::Pattern;
 use profile::Verdict;
