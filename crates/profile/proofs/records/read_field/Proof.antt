@@ -1,6 +1,7 @@
 -- The numbers before the regions are tested first: then the body has as many regions as they say, at most seven, and those decide.
 -- Assumes nothing.
-use Rattle.profile.proofs.Readers.{told-no, told-yes, body-no, body-yes, head-no, head-count, field-fits, field-made}
+use Rattle.profile.proofs.Laws.{told-no, told-yes}
+use Rattle.profile.proofs.Readers.{body-no, body-yes, head-no, head-count, field-fits, field-made}
 use borrow.Author.Needs.{needs}
 use Rattle.profile.proofs.records.read_field.Statement.{statement}
 use Rattle.profile.proofs.records.read_field.Tie as tie

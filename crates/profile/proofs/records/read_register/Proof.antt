@@ -1,6 +1,7 @@
 -- The address and the data are those of the body, so the test is that of the definition; where it holds both halves are stored.
 -- Assumes nothing.
-use Rattle.profile.proofs.Readers.{told-no, told-yes, passed-limit, body-no, body-yes, register-test}
+use Rattle.profile.proofs.Laws.{told-no, told-yes}
+use Rattle.profile.proofs.Readers.{passed-limit, body-no, body-yes, register-test}
 use borrow.Author.Needs.{needs}
 use native.Mathlib.Omega.{arith}
 use Rattle.profile.proofs.records.read_register.Statement.{statement}

@@ -2,7 +2,8 @@
 -- Assumes nothing.
 use Rattle.profile.specs.Ranges.{sequenceRange}
 use Rattle.profile.specs.Script.{sequenceFits}
-use Rattle.profile.proofs.Readers.{told-no, told-yes, passed-limit, body-no, body-yes, item-test}
+use Rattle.profile.proofs.Laws.{told-no, told-yes}
+use Rattle.profile.proofs.Readers.{passed-limit, body-no, body-yes, item-test}
 use borrow.Author.Needs.{needs}
 use native.Mathlib.Omega.{arith}
 use Rattle.profile.proofs.records.read_sequence.Statement.{statement}

@@ -2,7 +2,8 @@
 -- Assumes nothing.
 use mathlib.Core.Path.{_∙_}
 use Rattle.profile.specs.Script.{subckFits}
-use Rattle.profile.proofs.Readers.{told-no, told-yes, body-no, body-yes}
+use Rattle.profile.proofs.Laws.{told-no, told-yes}
+use Rattle.profile.proofs.Readers.{body-no, body-yes}
 use borrow.Author.Needs.{needs}
 use Rattle.profile.proofs.records.read_subck.Statement.{statement}
 use Rattle.profile.proofs.records.read_subck.Tie as tie
