@@ -47,7 +47,7 @@ use Rattle.profile.specs.declared.Verdict.{Verdict}
 use Rattle.profile.proofs.Laws.{by-cases, or-left, all-one, chunks-more, chunks-add}
 use Rattle.profile.proofs.Tested.{joined-all, tests-next}
 use Rattle.profile.proofs.Entries.{Numbered, fine-then, broken-then, number-accepted, numbered-chunks}
-use Rattle.profile.proofs.Checked.{judge-rules}
+use Rattle.profile.proofs.Checked.{judge-rules, numbered-output}
 
 -- ---- two parts
 
@@ -161,9 +161,6 @@ module _ (i : ℕ) (m : Mode) (s : Sequence) (a : Pattern) (size : ℕ) where
       after-9 : firstBroken (entriesAt i m s a size) ≡ firstBroken (chunks 6 (toggleEntries i m a) ++ runEntries i m s a size)
       after-9 = after-8 ∙ head-fine 9 i _ (ap not (ne-eqb (a .length) 0 some))
 
-      toggles-numbered : Numbered (chunks 6 (toggleEntries i m a))
-      toggles-numbered = numbered-chunks 6 (toggleEntries i m a) (λ k. (lit≤ tt, tt))
-
       -- the six entries of 10 have one verdict
       toggles-verdict : firstBroken (chunks 6 (toggleEntries i m a)) ≡ cond Toggles accepted (refused 10 i)
       toggles-verdict = same-verdict 10 i (lit≤ tt) (λ k. togglesRight m a k) 6
@@ -174,7 +171,7 @@ module _ (i : ℕ) (m : Mode) (s : Sequence) (a : Pattern) (size : ℕ) where
 
       module _ (toggles : Toggles ≡ true) where
         after-10 : firstBroken (entriesAt i m s a size) ≡ firstBroken (runEntries i m s a size)
-        after-10 = after-9 ∙ fine-then (chunks 6 (toggleEntries i m a)) (runEntries i m s a size) toggles-numbered (toggles-verdict ∙ rw toggles)
+        after-10 = after-9 ∙ fine-then (chunks 6 (toggleEntries i m a)) (runEntries i m s a size) (numbered-chunks 6 _ (numbered-output i m a)) (toggles-verdict ∙ rw toggles)
 
         pub broken-11 : maskRight m (s .mask) a ≡ false → refused 11 i ≡ firstBroken (entriesAt i m s a size)
         broken-11 e = head-broken 11 i _ e ∙ sym after-10
