@@ -21,7 +21,10 @@ empty-region-requires : tie.Need-empty-region-requires
 empty-region-requires c κs = search needs
 
 returns-2 : tie.Need-returns-2
-returns-2 c = let f = c .before .before .args .t1 in let e : length (f .regions) ≡ 7 = search length-unmapped in c .empty-region .ensures ∙ sym (List·getD-eq-default (f .regions) _ (omega (arith, c .before .if1 .left)))
+returns-2 c =
+    let f = c .before .before .args .t1 in
+    let e : length (f .regions) ≡ 7 = search length-unmapped in
+    c .empty-region .ensures ∙ sym (List·getD-eq-default (f .regions) _ (omega (arith, c .before .if1 .left)))
 
 pub region-at-spec : {M : Type 1} → statement M
 region-at-spec =

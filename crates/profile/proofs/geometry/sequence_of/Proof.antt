@@ -21,7 +21,10 @@ empty-sequence-requires : tie.Need-empty-sequence-requires
 empty-sequence-requires c κs = search needs
 
 returns-2 : tie.Need-returns-2
-returns-2 c = let t = c .before .before .args .t1 in let e : length (t .sequences) ≡ 10 = search length-unmapped in c .empty-sequence .ensures ∙ sym (List·getD-eq-default (t .sequences) _ (omega (arith, c .before .if1 .left)))
+returns-2 c =
+    let t = c .before .before .args .t1 in
+    let e : length (t .sequences) ≡ 10 = search length-unmapped in
+    c .empty-sequence .ensures ∙ sym (List·getD-eq-default (t .sequences) _ (omega (arith, c .before .if1 .left)))
 
 pub sequence-of-spec : {M : Type 1} → statement M
 sequence-of-spec =

@@ -49,7 +49,8 @@ with-tables-requires c κs = search needs
 returns-2 : tie.Need-returns-2
 returns-2 c =
     let d = c .before .before .before in
-    c .with-tables .ensures ∙ body-yes _ _ _ _ (told-yes (right d) (c .before .before .if1 .left)) (rw (d .before .gate-from .ensures, d .before .before .number-at .ensures))
+    c .with-tables .ensures ∙ body-yes _ _ _ _ (told-yes (right d) (c .before .before .if1 .left))
+    (rw (d .before .gate-from .ensures, d .before .before .number-at .ensures))
 
 pub read-gate-spec : {M : Type 1} → statement M
 read-gate-spec =
