@@ -29,7 +29,7 @@ use Rattle.profile.proofs.Entries.{
   Hold,
   entries-hold,
   hold-accepted,
-  numbered-append,
+  numbered-left,
   fine-then,
   fine-left,
   fine-right,
@@ -37,7 +37,7 @@ use Rattle.profile.proofs.Entries.{
   fine-chunk,
   chunks-fine,
 }
-use Rattle.profile.proofs.Checked.{check-range, check-judge, judge-field, judge-rules, numbered-region}
+use Rattle.profile.proofs.Checked.{check-range, check-judge, judge-field, judge-rules, numbered-output, numbered-order, numbered-region, numbered-lines, numbered-gates, numbered-shutters, numbered-rules}
 use Rattle.profile.proofs.Carried.{says-range}
 use Rattle.profile.proofs.Lines.{Ordered, regions-some}
 use Rattle.profile.proofs.Reflects.{Says, says-lt, says-ne, says-and, says-where, says-one, says-toggles, says-mask, says-counts, says-ends, says-second, says-gate, says-subck, says-shutter}
@@ -127,11 +127,8 @@ module _ (i : ℕ) (m : Mode) (s : Sequence) (a : Pattern) (size : ℕ) where
   abbrev firsts : List Entry
   firsts = rule 8 i (s .present) ∷ rule 9 i (not (eqb (a .length) 0)) ∷ []
 
-  toggles-numbered : (k : ℕ) → Numbered (toggleEntries i m a k)
-  toggles-numbered k = (lit≤ tt, tt)
-
   outputs-numbered : Numbered outputs
-  outputs-numbered = numbered-chunks 6 (toggleEntries i m a) toggles-numbered
+  outputs-numbered = numbered-chunks 6 (toggleEntries i m a) (numbered-output i m a)
 
   says-output : (k : ℕ) → (firstBroken (toggleEntries i m a k) ≡ accepted) ↔ Rises m a k
   says-output k = says-fine _ _ (refused 10 i) (lit≤ tt) (says-toggles m a k)
@@ -148,7 +145,7 @@ module _ (i : ℕ) (m : Mode) (s : Sequence) (a : Pattern) (size : ℕ) where
       record {
         given = h .0;
         length = says-ne (a .length) 0 .0 (h .1 .0);
-        toggles = λ k l. says-output k .0 (fine-chunk 6 (toggleEntries i m a) toggles-numbered o k l);
+        toggles = λ k l. says-output k .0 (fine-chunk 6 (toggleEntries i m a) (numbered-output i m a) o k l);
         masks = says-mask m (s .mask) a .0 (g .0);
         counts = says-counts m s a .0 (g .1 .0);
         ends = says-ends m s a size .0 (g .1 .1 .0);
@@ -160,7 +157,7 @@ module _ (i : ℕ) (m : Mode) (s : Sequence) (a : Pattern) (size : ℕ) where
       fine-then firsts (outputs ++ runEntries i m s a size) (lit≤ tt, (lit≤ tt, tt))
       (hold-accepted firsts (o .given, (says-ne (a .length) 0 .1 (o .length), tt)))
       ∙ fine-then outputs (runEntries i m s a size) outputs-numbered
-      (chunks-fine 6 (toggleEntries i m a) toggles-numbered (λ k l. says-output k .1 (o .toggles k l)))
+      (chunks-fine 6 (toggleEntries i m a) (numbered-output i m a) (λ k l. says-output k .1 (o .toggles k l)))
       ∙ hold-accepted (runEntries i m s a size)
       (says-mask m (s .mask) a .1 (o .masks), (says-counts m s a .1 (o .counts), (says-ends m s a size .1 (o .ends), tt)))
 
@@ -183,7 +180,7 @@ module _ (t : Tables) (f : Field) where
   unfolding lineEntries
   lines-say = (
     (λ e.
-        let h = entries-hold (lineEntries t f) (lit≤ tt, (lit≤ tt, tt)) e in
+        let h = entries-hold (lineEntries t f) (numbered-lines t f) e in
         (gate-line-says .0 (h .0), second-says .0 (h .1 .0))),
     λ w. hold-accepted (lineEntries t f) (gate-line-says .1 (w .0), (second-says .1 (w .1), tt)),
   )
@@ -210,26 +207,39 @@ module _ (t : Tables) (f : Field) where
   abbrev shutters : List Entry
   shutters = chunks 2 (shutterEntries t f)
 
-  order-numbered : Numbered order
-  order-numbered = numbered-chunks (regionCount f) (orderEntries f) (λ i. (lit≤ tt, tt))
+  -- the fronts of the list: 7 to 13, 14, 15 and 16
+  abbrev to-13 : List Entry
+  to-13 = order ++ regions
 
-  regions-numbered : Numbered (order ++ regions)
-  regions-numbered = numbered-append order regions order-numbered (numbered-chunks (regionCount f) (regionEntries t f) (numbered-region t f))
+  abbrev to-14 : List Entry
+  to-14 = to-13 ++ lineEntries t f
 
-  lines-numbered : Numbered (order ++ regions ++ lineEntries t f)
-  unfolding lineEntries
-  lines-numbered = numbered-append (order ++ regions) (lineEntries t f) regions-numbered (lit≤ tt, (lit≤ tt, tt))
+  abbrev to-15 : List Entry
+  to-15 = to-14 ++ gates
 
-  gates-numbered : Numbered (order ++ regions ++ lineEntries t f ++ gates)
-  gates-numbered =
-      numbered-append (order ++ regions ++ lineEntries t f) gates lines-numbered (numbered-chunks 5 (gateEntries t f) (λ i. (lit≤ tt, tt)))
+  abbrev to-16 : List Entry
+  to-16 = to-15 ++ subckEntries t
 
-  subck-numbered : Numbered (order ++ regions ++ lineEntries t f ++ gates ++ subckEntries t)
-  subck-numbered = numbered-append (order ++ regions ++ lineEntries t f ++ gates) (subckEntries t) gates-numbered (lit≤ tt, tt)
+  -- each is numbered, since the whole is
+  numbered-16 : Numbered to-16
+  unfolding rulesOf
+  numbered-16 = numbered-left to-16 shutters (numbered-rules t f)
+
+  numbered-15 : Numbered to-15
+  numbered-15 = numbered-left to-15 (subckEntries t) numbered-16
+
+  numbered-14 : Numbered to-14
+  numbered-14 = numbered-left to-14 gates numbered-15
+
+  numbered-13 : Numbered to-13
+  numbered-13 = numbered-left to-13 (lineEntries t f) numbered-14
+
+  numbered-7 : Numbered order
+  numbered-7 = numbered-left order regions numbered-13
 
   order-says : (firstBroken order ≡ accepted) ↔ ((i : ℕ) → i < regionCount f → Starts f i)
   order-says =
-      fine-each (regionCount f) (orderEntries f) (λ i. Starts f i) (λ i. (lit≤ tt, tt))
+      fine-each (regionCount f) (orderEntries f) (λ i. Starts f i) (numbered-order t f)
       (λ i. says-fine _ _ (refused 7 i) (lit≤ tt) (says-starts f i))
 
   abbrev Region : ℕ → Type 0
@@ -247,7 +257,7 @@ module _ (t : Tables) (f : Field) where
 
   gates-say : (firstBroken gates ≡ accepted) ↔ ((k : ℕ) → k < 5 → GateObeys k)
   gates-say =
-      fine-each 5 (gateEntries t f) (λ k. GateObeys k) (λ i. (lit≤ tt, tt))
+      fine-each 5 (gateEntries t f) (λ k. GateObeys k) (numbered-gates t f)
       (λ k. says-fine _ _ (refused 15 k) (lit≤ tt) (says-one (says-gate (getD (t .gates) k emptyGate) (lineLength t f (f .gate)))))
 
   subck-says : (firstBroken (subckEntries t) ≡ accepted) ↔ (t .subck .present ≡ true → (t .subck .toggle1 < t .subck .toggle2) × (1 ≤ t .subck .suppressed))
@@ -258,17 +268,17 @@ module _ (t : Tables) (f : Field) where
 
   shutters-say : (firstBroken shutters ≡ accepted) ↔ ((k : ℕ) → k < 2 → ShutterObeys k)
   shutters-say =
-      fine-each 2 (shutterEntries t f) (λ k. ShutterObeys k) (λ i. (lit≤ tt, tt))
+      fine-each 2 (shutterEntries t f) (λ k. ShutterObeys k) (numbered-shutters t f)
       (λ k. says-fine _ _ (refused 17 k) (lit≤ tt) (says-shutter t f (getD (t .shutters) k emptyShutter)))
 
   rules-obeyed : firstBroken (rulesOf t f) ≡ accepted → Obeys t f
   unfolding rulesOf
   rules-obeyed e =
-      let e5 = fine-both (order ++ regions ++ lineEntries t f ++ gates ++ subckEntries t) shutters subck-numbered .0 e in
-      let e4 = fine-both (order ++ regions ++ lineEntries t f ++ gates) (subckEntries t) gates-numbered .0 (e5 .0) in
-      let e3 = fine-both (order ++ regions ++ lineEntries t f) gates lines-numbered .0 (e4 .0) in
-      let e2 = fine-both (order ++ regions) (lineEntries t f) regions-numbered .0 (e3 .0) in
-      let e1 = fine-both order regions order-numbered .0 (e2 .0) in
+      let e5 = fine-both to-16 shutters numbered-16 .0 e in
+      let e4 = fine-both to-15 (subckEntries t) numbered-15 .0 (e5 .0) in
+      let e3 = fine-both to-14 gates numbered-14 .0 (e4 .0) in
+      let e2 = fine-both to-13 (lineEntries t f) numbered-13 .0 (e3 .0) in
+      let e1 = fine-both order regions numbered-7 .0 (e2 .0) in
       let o = order-says .0 (e1 .0) in
       let r = regions-say .0 (e1 .1) in
       let g = lines-say t f .0 (e2 .1) in
@@ -314,11 +324,11 @@ module _ (t : Tables) (f : Field) where
     obeyed-rules : firstBroken (rulesOf t f) ≡ accepted
     unfolding rulesOf
     obeyed-rules =
-        fine-then (order ++ regions ++ lineEntries t f ++ gates ++ subckEntries t) shutters subck-numbered
-        (fine-then (order ++ regions ++ lineEntries t f ++ gates) (subckEntries t) gates-numbered
-        (fine-then (order ++ regions ++ lineEntries t f) gates lines-numbered
-        (fine-then (order ++ regions) (lineEntries t f) regions-numbered
-        (fine-then order regions order-numbered (order-says .1 starts) ∙ regions-say .1 region-obeys)
+        fine-then to-16 shutters numbered-16
+        (fine-then to-15 (subckEntries t) numbered-15
+        (fine-then to-14 gates numbered-14
+        (fine-then to-13 (lineEntries t f) numbered-13
+        (fine-then order regions numbered-7 (order-says .1 starts) ∙ regions-say .1 region-obeys)
         ∙ lines-say t f .1 (o .rule-14-gate, o .rule-14-second))
         ∙ gates-say .1 (o .rule-15))
         ∙ subck-says .1 (o .rule-16))

@@ -24,78 +24,23 @@ use Rattle.profile.proofs.Laws.{by-cases, all-passed, passed, where-int
 
 -- ---- a profile with one of its items replaced
 
+abbrev madeOf : List ℕ → List Sequence → List Gate → Subck → List Shutter → Field → Profile
+madeOf r s g c u f = record { tables = record { registers = r; sequences = s; gates = g; subck = c; shutters = u }; field = f }
+
 abbrev pub replaceRegisters : List ℕ → Profile → Profile
-replaceRegisters r p =
-    record {
-      tables =
-          record {
-            registers = r;
-            sequences = p .tables .sequences;
-            gates = p .tables .gates;
-            subck = p .tables .subck;
-            shutters = p .tables .shutters;
-          };
-      field = p .field;
-    }
+replaceRegisters r p = madeOf r (p .tables .sequences) (p .tables .gates) (p .tables .subck) (p .tables .shutters) (p .field)
 
 abbrev pub replaceSequences : List Sequence → Profile → Profile
-replaceSequences s p =
-    record {
-      tables =
-          record {
-            registers = p .tables .registers;
-            sequences = s;
-            gates = p .tables .gates;
-            subck = p .tables .subck;
-            shutters = p .tables .shutters;
-          };
-      field = p .field;
-    }
+replaceSequences s p = madeOf (p .tables .registers) s (p .tables .gates) (p .tables .subck) (p .tables .shutters) (p .field)
 
 abbrev pub replaceGates : List Gate → Profile → Profile
-replaceGates g p =
-    record {
-      tables =
-          record {
-            registers = p .tables .registers;
-            sequences = p .tables .sequences;
-            gates = g;
-            subck = p .tables .subck;
-            shutters = p .tables .shutters;
-          };
-      field = p .field;
-    }
+replaceGates g p = madeOf (p .tables .registers) (p .tables .sequences) g (p .tables .subck) (p .tables .shutters) (p .field)
 
 abbrev pub replaceSubck : Subck → Profile → Profile
-replaceSubck s p =
-    record {
-      tables =
-          record {
-            registers = p .tables .registers;
-            sequences = p .tables .sequences;
-            gates = p .tables .gates;
-            subck = s;
-            shutters = p .tables .shutters;
-          };
-      field = p .field;
-    }
+replaceSubck c p = madeOf (p .tables .registers) (p .tables .sequences) (p .tables .gates) c (p .tables .shutters) (p .field)
 
 abbrev pub replaceShutters : List Shutter → Profile → Profile
-replaceShutters s p =
-    record {
-      tables =
-          record {
-            registers = p .tables .registers;
-            sequences = p .tables .sequences;
-            gates = p .tables .gates;
-            subck = p .tables .subck;
-            shutters = s;
-          };
-      field = p .field;
-    }
-
-abbrev pub replaceField : Field → Profile → Profile
-replaceField f p = record { tables = p .tables; field = f }
+replaceShutters u p = madeOf (p .tables .registers) (p .tables .sequences) (p .tables .gates) (p .tables .subck) u (p .field)
 
 -- ---- any kind
 

@@ -58,6 +58,9 @@ judge-rules p h = rw h
 
 -- ---- every rule has a number
 
+pub numbered-output : (i : ℕ) (m : Mode) (a : Pattern) (k : ℕ) → Numbered (toggleEntries i m a k)
+numbered-output i m a k = (omega arith, tt)
+
 pub numbered-at : (i : ℕ) (m : Mode) (s : Sequence) (a : Pattern) (size : ℕ) → Numbered (entriesAt i m s a size)
 unfolding entriesAt
 numbered-at i m s a size = (
@@ -65,7 +68,7 @@ numbered-at i m s a size = (
   (
     omega arith,
     numbered-append (chunks 6 (toggleEntries i m a)) (runEntries i m s a size)
-        (numbered-chunks 6 (toggleEntries i m a) (λ k. (omega arith, tt)))
+        (numbered-chunks 6 (toggleEntries i m a) (numbered-output i m a))
         (omega arith, (omega arith, (omega arith, tt))),
   ),
 )

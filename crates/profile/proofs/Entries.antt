@@ -52,6 +52,10 @@ pub numbered-append : (a b : List Entry) → Numbered a → Numbered b → Numbe
 numbered-append [] b n m = m
 numbered-append (e ∷ a) b n m = (n .0, numbered-append a b (n .1) m)
 
+pub numbered-left : (a b : List Entry) → Numbered (a ++ b) → Numbered a
+numbered-left [] b n = tt
+numbered-left (e ∷ a) b n = (n .0, numbered-left a b (n .1))
+
 pub hold-left : (a b : List Entry) → Hold (a ++ b) → Hold a
 hold-left [] b h = tt
 hold-left (e ∷ a) b h = (h .0, hold-left a b (h .1))

@@ -15,6 +15,7 @@ use Rattle.profile.specs.Bytes.{numberAt, twoBytes}
 use Rattle.profile.specs.Values.{modeNumber, modeOf, emptyRegion}
 use Rattle.profile.specs.Geometry.{regionCount, regionAt}
 use Rattle.profile.specs.Ranges.{fieldRange, regionRange, regionIn}
+use Rattle.profile.specs.Reading.{inField}
 use Rattle.profile.specs.Script.{
   regionFrom,
   regionsFrom,
@@ -38,7 +39,7 @@ use Rattle.profile.proofs.Laws.{by-cases, and-intro, passed, all-passed
 use Rattle.profile.proofs.Items.{field-count, region-present, region-absent}
 use Rattle.profile.proofs.Sizes.{length-field}
 use Rattle.profile.proofs.ByteRange.{mode-below}
-use Rattle.profile.proofs.Bodies.{replaceField, join-two, step-takes}
+use Rattle.profile.proofs.Bodies.{join-two, step-takes}
 
 mode-back : (m : Mode) → modeOf (modeNumber m) ≡ m
 mode-back Plain = refl
@@ -171,7 +172,7 @@ module _ (f : Field) (sized : length (f .regions) ≡ 7) (present : f .present �
   pub length-record : length (fieldRecord f) ≡ 4 + (10 + 6 * f .count)
   length-record = omega (arith, length-field f, count-high)
 
-  pub step-field : (rest : List ℕ) (p : Profile) → step (fieldRecord f ++ rest) p ≡ next (10 + 6 * f .count) (replaceField f p)
+  pub step-field : (rest : List ℕ) (p : Profile) → step (fieldRecord f ++ rest) p ≡ next (10 + 6 * f .count) (inField f p)
   unfolding allowed fits put
   step-field rest p =
       let c : regionCount f ≡ f .count = omega (arith, count-high) in
@@ -189,4 +190,4 @@ module _ (f : Field) (sized : length (f .regions) ≡ 7) (present : f .present �
       (step-takes s p refl (rw j a) (rw j (omega (arith, length-body f (f .count), length-append b rest))) (ap (fits 3) t ∙ field-fits)
       ∙ ap (λ (k : ℕ). next k (put 3 (bodyOf s) p)) j
       ∙ ap (λ (l : List ℕ). next len (put 3 l p)) t
-      ∙ ap (λ (g : Field). next len (replaceField g p)) field-back)
+      ∙ ap (λ (g : Field). next len (inField g p)) field-back)

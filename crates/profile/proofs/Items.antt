@@ -1,7 +1,7 @@
 -- What a profile in range is, item by item: the one test taken apart and put together again,
 -- and what it says of an item that is present (its ranges) and of one that is absent (it is the empty one).
 -- Assumes nothing.
-use mathlib.Core.Path.{_≡_, refl, sym, ap, _∙_}
+use mathlib.Core.Path.{_≡_, refl, sym, ap}
 use mathlib.Core.Bool.{Bool, true, false, cond, _&&_, false≢true}
 use mathlib.Core.List.{[], _∷_}
 use Prim.Native.Nat.{ℕ, _<_, _≤_}
@@ -42,7 +42,7 @@ use Rattle.profile.specs.declared.Gate.{Gate}
 use Rattle.profile.specs.declared.Subck.{Subck}
 use Rattle.profile.specs.declared.Shutter.{Shutter}
 use Rattle.profile.specs.declared.Profile.{Profile}
-use Rattle.profile.proofs.Laws.{and-left, and-right, and-intro, passed, all-one, all-chunks, chunks-all}
+use Rattle.profile.proofs.Laws.{and-left, and-right, and-intro, passed, ones-at, ones-all}
 
 -- the test of a whole profile, item by item
 pub record Items (p : Profile) : Type 0 where
@@ -53,13 +53,6 @@ pub record Items (p : Profile) : Type 0 where
   pub shutters : (k : ℕ) → k < 2 → shutterIn (getD (p .tables .shutters) k emptyShutter) ≡ true
   pub field : fieldIn (p .field) ≡ true
   pub regions : (i : ℕ) → i < 7 → regionIn (p .field) i ≡ true
-
--- tests of one item each
-ones-at : (n : ℕ) (f : ℕ → Bool) → all (chunks n (λ i. f i ∷ [])) ≡ true → (i : ℕ) → i < n → f i ≡ true
-ones-at n f e i h = sym (all-one (f i)) ∙ all-chunks n (λ i. f i ∷ []) e i h
-
-ones-all : (n : ℕ) (f : ℕ → Bool) → ((i : ℕ) → i < n → f i ≡ true) → all (chunks n (λ i. f i ∷ [])) ≡ true
-ones-all n f h = chunks-all n (λ i. f i ∷ []) (λ i l. all-one (f i) ∙ h i l)
 
 pub items : (p : Profile) → inRange p ≡ true → Items p
 unfolding inRange

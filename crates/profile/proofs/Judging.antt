@@ -2,6 +2,7 @@
 -- answers for the whole.
 -- Assumes nothing.
 use Prim.Native.Nat.{ℕ, zero, suc, _+_, _-_, _≤_, _<_}
+use native.Mathlib.Numerals.{add-one}
 use native.Mathlib.Omega.{arith}
 use mathlib.Core.Path.{_≡_, refl, sym, ap, _∙_}
 use mathlib.Core.Bool.{Bool, true, false, cond, not, _&&_, _||_}
@@ -43,9 +44,10 @@ use Rattle.profile.specs.declared.Tables.{Tables}
 use Rattle.profile.specs.declared.Field.{Field}
 use Rattle.profile.specs.declared.Profile.{Profile}
 use Rattle.profile.specs.declared.Verdict.{Verdict}
-use Rattle.profile.proofs.Laws.{by-cases, or-left, all-one, all-append, chunks-more, chunks-add}
+use Rattle.profile.proofs.Laws.{by-cases, or-left, all-one, chunks-more, chunks-add}
+use Rattle.profile.proofs.Tested.{joined-all, tests-next}
 use Rattle.profile.proofs.Entries.{Numbered, fine-then, broken-then, number-accepted, numbered-chunks}
-use Rattle.profile.proofs.Checked.{judge-rules}
+use Rattle.profile.proofs.Checked.{judge-rules, numbered-output}
 
 -- ---- two parts
 
@@ -98,14 +100,10 @@ one-fine n at e = head-fine n at [] e
 pub one-broken : (n at : ℕ) {b : Bool} → b ≡ false → refused n at ≡ firstBroken (rule n at b ∷ [])
 one-broken n at e = head-broken n at [] e
 
-all-none : all [] ≡ true
-unfolding all
-all-none = refl
-
 -- six tests at once
 pub all-six : (f : ℕ → Bool) → f 0 && f 1 && f 2 && f 3 && f 4 && f 5 ≡ all (chunks 6 (λ k. f k ∷ []))
 unfolding chunks
-all-six f = simp (all-append, all-one, all-none)
+all-six f = joined-all (f 0) (f 1 ∷ f 2 ∷ f 3 ∷ f 4 ∷ f 5 ∷ [])
 
 -- 15 on a gate line of the given length: what `gateEntries` is at the field's gate line
 abbrev pub gatesOn : Tables → ℕ → ℕ → List Entry
@@ -123,24 +121,22 @@ module _ (number at : ℕ) (numbered : 1 ≤ number) (b : ℕ → Bool) where
   unfolding firstBroken
   one-verdict n = refl
 
-  tests-more : (n : ℕ) → all (chunks n test ++ test n) ≡ all (chunks n test) && b n
-  tests-more n = all-append (chunks n test) (test n) ∙ ap (λ (x : Bool). all (chunks n test) && x) (all-one (b n))
-
   pub same-verdict : (n : ℕ) → firstBroken (chunks n entry) ≡ cond (all (chunks n test)) accepted (refused number at)
   unfolding chunks firstBroken all
   same-verdict zero = refl
   same-verdict (suc n) =
       let ih = same-verdict n in
+      let more = rw add-one at (tests-next n b) in
       by-cases (all (chunks n test))
       (λ e.
       fine-then (chunks n entry) (entry n) (numbered-chunks n entry (λ k. (numbered, tt))) (ih ∙ rw e)
       ∙ one-verdict n
-      ∙ rw (tests-more n, e))
+      ∙ rw (more, e))
       (λ e.
       let q : firstBroken (chunks n entry) ≡ refused number at = ih ∙ rw e in
       broken-then (chunks n entry) (entry n) (λ z. omega (arith, ap (λ (v : Verdict). v .number) (sym z ∙ q)))
       ∙ q
-      ∙ rw (tests-more n, e))
+      ∙ rw (more, e))
 
 -- ---- 8 to 13 at one region
 
@@ -165,9 +161,6 @@ module _ (i : ℕ) (m : Mode) (s : Sequence) (a : Pattern) (size : ℕ) where
       after-9 : firstBroken (entriesAt i m s a size) ≡ firstBroken (chunks 6 (toggleEntries i m a) ++ runEntries i m s a size)
       after-9 = after-8 ∙ head-fine 9 i _ (ap not (ne-eqb (a .length) 0 some))
 
-      toggles-numbered : Numbered (chunks 6 (toggleEntries i m a))
-      toggles-numbered = numbered-chunks 6 (toggleEntries i m a) (λ k. (lit≤ tt, tt))
-
       -- the six entries of 10 have one verdict
       toggles-verdict : firstBroken (chunks 6 (toggleEntries i m a)) ≡ cond Toggles accepted (refused 10 i)
       toggles-verdict = same-verdict 10 i (lit≤ tt) (λ k. togglesRight m a k) 6
@@ -178,7 +171,7 @@ module _ (i : ℕ) (m : Mode) (s : Sequence) (a : Pattern) (size : ℕ) where
 
       module _ (toggles : Toggles ≡ true) where
         after-10 : firstBroken (entriesAt i m s a size) ≡ firstBroken (runEntries i m s a size)
-        after-10 = after-9 ∙ fine-then (chunks 6 (toggleEntries i m a)) (runEntries i m s a size) toggles-numbered (toggles-verdict ∙ rw toggles)
+        after-10 = after-9 ∙ fine-then (chunks 6 (toggleEntries i m a)) (runEntries i m s a size) (numbered-chunks 6 _ (numbered-output i m a)) (toggles-verdict ∙ rw toggles)
 
         pub broken-11 : maskRight m (s .mask) a ≡ false → refused 11 i ≡ firstBroken (entriesAt i m s a size)
         broken-11 e = head-broken 11 i _ e ∙ sym after-10

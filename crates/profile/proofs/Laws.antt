@@ -178,6 +178,13 @@ chunks-all zero f h = refl
 chunks-all (suc n) f h =
     all-append (chunks n f) (f n) ∙ and-intro (chunks-all n f (λ i l. h i (omega arith))) (h n (omega arith))
 
+-- tests in chunks of one
+pub ones-at : (n : ℕ) (f : ℕ → Bool) → all (chunks n (λ i. f i ∷ [])) ≡ true → (i : ℕ) → i < n → f i ≡ true
+ones-at n f e i h = sym (all-one (f i)) ∙ all-chunks n (λ i. f i ∷ []) e i h
+
+pub ones-all : (n : ℕ) (f : ℕ → Bool) → ((i : ℕ) → i < n → f i ≡ true) → all (chunks n (λ i. f i ∷ [])) ≡ true
+ones-all n f h = chunks-all n (λ i. f i ∷ []) (λ i l. all-one (f i) ∙ h i l)
+
 -- ---- sums
 
 pub sum-more : (g : ℕ → ℕ) (a n : ℕ) → sum g a (n + 1) ≡ sum g a n + g (a + n)

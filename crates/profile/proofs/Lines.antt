@@ -3,16 +3,16 @@
 -- Assumes nothing.
 use mathlib.Core.Path.{_≡_, refl, sym, ap, _∙_}
 use mathlib.Core.Bool.{true}
-use mathlib.Core.List.{List, [], _∷_}
+use mathlib.Core.List.{List}
 use Prim.Native.Nat.{ℕ, zero, suc, _+_, _*_, _-_, _≤_, _<_}
 use native.Mathlib.Nat.{zero-mul, zero-add, le-trans}
 use native.Mathlib.Numerals.{add-one}
 use native.Mathlib.Omega.{arith}
 use borrow.Author.Tests.{lt-leb, ltb-true, ltb-false, leb-true, leb-false, eqb-true, eqb-false, lt-ltb, le-ltb, eq-eqb, ne-eqb}
 use lib.Dec.{ltb, leb, eqb}
-use Rattle.profile.proofs.Items.{items}
+use Rattle.profile.proofs.Items.{items, sequence-present, sequence-absent, field-present, field-count, region-present}
 use Rattle.profile.proofs.Laws.{cond-case, by-cases, and-left, and-right, and-intro, Passed, passed, sum-ext, sum-same, sum-le, sum-more, sum-below, sum-but-one, sum-upto, sum-parts, chunks-parts, last-below, last-is, last-starts, last-next}
-use Rattle.profile.specs.Lists.{chunks, sum, lastStart}
+use Rattle.profile.specs.Lists.{all, chunks, sum, lastStart}
 use Rattle.profile.specs.Geometry.{
   regionCount,
   regionAt,
@@ -30,7 +30,7 @@ use Rattle.profile.specs.Geometry.{
   pixelCount,
   hasPixel,
 }
-use Rattle.profile.specs.Ranges.{sequenceRange, fieldRange, regionRange, sequenceIn, regionIn, fieldIn, zeros, inRange}
+use Rattle.profile.specs.Ranges.{sequenceRange, fieldRange, regionRange, sequenceIn, inRange}
 use Rattle.profile.specs.declared.Sequence.{Sequence}
 use Rattle.profile.specs.declared.Field.{Field}
 use Rattle.profile.specs.declared.Tables.{Tables}
@@ -266,18 +266,17 @@ module _ (f : Field) (o : Ordered f) where
 
 -- an absent sequence has length 0
 pub sequence-most : (s : Sequence) → sequenceIn s ≡ true → s .length ≤ 4095
-unfolding sequenceIn
 sequence-most s e =
     by-cases (s .present)
-    (λ q. leb-true (s .length) 4095 (passed (sequenceRange s) (rw q at e) .1 .1 .0))
-    (λ q.
-    let none = passed (zeros (s .pattern ∷ s .length ∷ s .start ∷ s .odd ∷ s .even ∷ s .mask ∷ [])) (rw q at e) in
-    omega (arith, eqb-true (s .length) 0 (none .1 .0)))
+    (λ q. leb-true (s .length) 4095 (passed (sequenceRange s) (sequence-present s e q) .1 .1 .0))
+    (λ q. omega (arith, ap (λ (s : Sequence). s .length) (sequence-absent s e q)))
 
 module _ (p : Profile) (e : inRange p ≡ true) (there : p .field .present ≡ true) where
+  field-range : all (fieldRange (p .field)) ≡ true
+  field-range = field-present (p .field) (items p e .field) there
+
   pub field-tests : Passed (fieldRange (p .field))
-  unfolding fieldIn
-  field-tests = passed (fieldRange (p .field)) (rw there at (items p e .field))
+  field-tests = passed (fieldRange (p .field)) field-range
 
   pub lines-some : 1 ≤ p .field .lines
   lines-some = leb-true 1 (p .field .lines) (field-tests .1 .0)
@@ -292,10 +291,10 @@ module _ (p : Profile) (e : inRange p ≡ true) (there : p .field .present ≡ t
   last-most = leb-true (p .field .last) 4095 (field-tests .1 .1 .1 .1 .0)
 
   pub count-some : 1 ≤ p .field .count
-  count-some = leb-true 1 (p .field .count) (field-tests .1 .1 .1 .1 .1 .1 .0)
+  count-some = field-count (p .field) field-range .0
 
   pub count-most : p .field .count ≤ 7
-  count-most = leb-true (p .field .count) 7 (field-tests .1 .1 .1 .1 .1 .1 .1 .0)
+  count-most = field-count (p .field) field-range .1
 
   pub region-count : regionCount (p .field) ≡ p .field .count
   region-count = omega (arith, count-most)
@@ -304,10 +303,8 @@ module _ (p : Profile) (e : inRange p ≡ true) (there : p .field .present ≡ t
   regions-some = omega (arith, count-some)
 
   pub region-tests : (i : ℕ) → i < regionCount (p .field) → Passed (regionRange (regionAt (p .field) i))
-  unfolding regionIn
   region-tests i h =
-      passed (regionRange (regionAt (p .field) i))
-      (rw (lt-ltb i (p .field .count) (omega arith)) at (items p e .regions i (omega arith)))
+      passed (regionRange (regionAt (p .field) i)) (region-present (p .field) i (items p e .regions i (omega arith)) (omega arith))
 
   pub first-most : (i : ℕ) → i < regionCount (p .field) → firstLine (p .field) i ≤ 4094
   first-most i h = leb-true (firstLine (p .field) i) 4094 (region-tests i h .0)

@@ -208,124 +208,48 @@ put-case : (Q : Profile → Type 0) (kind : ℕ) (b : List ℕ) (p : Profile)
 unfolding fits put
 put-case Q kind b p = by-kind (λ (f : Bool) (q : Profile). f ≡ true → Q q) kind _ _ _ _ _ _ _ _ _ _ _ _
 
+-- by its parts, one a table
+sized : {p : Profile} → length (p .tables .registers) ≡ 240 → length (p .tables .sequences) ≡ 10 → length (p .tables .gates) ≡ 5
+    → length (p .tables .shutters) ≡ 2 → length (p .field .regions) ≡ 7 → Sized p
+sized h s g u r = record { registers = h; sequences = s; gates = g; shutters = u; regions = r }
+
 pub put-sized : (kind : ℕ) (b : List ℕ) (p : Profile) → Sized p → fits kind b ≡ true → Sized (put kind b p)
 put-sized kind b p z =
     put-case Sized kind b p
-    (λ f.
-    record {
-      registers = simp length-set (z .registers);
-      sequences = z .sequences;
-      gates = z .gates;
-      shutters = z .shutters;
-      regions = z .regions;
-    })
-    (λ f.
-    record {
-      registers = z .registers;
-      sequences = simp length-set (z .sequences);
-      gates = z .gates;
-      shutters = z .shutters;
-      regions = z .regions;
-    })
-    (λ f.
-    record {
-      registers = z .registers;
-      sequences = z .sequences;
-      gates = z .gates;
-      shutters = z .shutters;
-      regions = length-regions b f;
-    })
-    (λ f.
-    record {
-      registers = z .registers;
-      sequences = z .sequences;
-      gates = simp length-set (z .gates);
-      shutters = z .shutters;
-      regions = z .regions;
-    })
-    (λ f.
-    record {
-      registers = z .registers;
-      sequences = z .sequences;
-      gates = z .gates;
-      shutters = z .shutters;
-      regions = z .regions;
-    })
-    (λ f.
-    record {
-      registers = z .registers;
-      sequences = z .sequences;
-      gates = z .gates;
-      shutters = simp length-set (z .shutters);
-      regions = z .regions;
-    })
+    (λ f. sized (simp length-set (z .registers)) (z .sequences) (z .gates) (z .shutters) (z .regions))
+    (λ f. sized (z .registers) (simp length-set (z .sequences)) (z .gates) (z .shutters) (z .regions))
+    (λ f. sized (z .registers) (z .sequences) (z .gates) (z .shutters) (length-regions b f))
+    (λ f. sized (z .registers) (z .sequences) (simp length-set (z .gates)) (z .shutters) (z .regions))
+    (λ f. sized (z .registers) (z .sequences) (z .gates) (z .shutters) (z .regions))
+    (λ f. sized (z .registers) (z .sequences) (z .gates) (simp length-set (z .shutters)) (z .regions))
+
+-- a profile whose tables are in range, and whose field is
+ranged : (p : Profile) → ((i : ℕ) → i < 240 → leb (getD (p .tables .registers) i 0) (halfLimit i) ≡ true)
+    → ((k : ℕ) → k < 10 → sequenceIn (getD (p .tables .sequences) k emptySequence) ≡ true)
+    → ((k : ℕ) → k < 5 → gateIn (getD (p .tables .gates) k emptyGate) ≡ true) → subckIn (p .tables .subck) ≡ true
+    → ((k : ℕ) → k < 2 → shutterIn (getD (p .tables .shutters) k emptyShutter) ≡ true) → fieldIn (p .field) ≡ true
+    → ((i : ℕ) → i < 7 → regionIn (p .field) i ≡ true) → Items p
+ranged p h s g c u f r = record { halves = h; sequences = s; gates = g; subck = c; shutters = u; field = f; regions = r }
 
 pub put-items : (kind : ℕ) (b : List ℕ) (p : Profile) → Bytes b → Items p → fits kind b ≡ true → Items (put kind b p)
 put-items kind b p bytes r =
+    let t = p .tables in
     put-case Items kind b p
     (λ f.
-    record {
-      halves = halves-ranged b bytes f (p .tables .registers) (r .halves);
-      sequences = r .sequences;
-      gates = r .gates;
-      subck = r .subck;
-      shutters = r .shutters;
-      field = r .field;
-      regions = r .regions;
-    })
+    ranged _ (halves-ranged b bytes f (t .registers) (r .halves)) (r .sequences) (r .gates) (r .subck) (r .shutters) (r .field) (r .regions))
     (λ f.
-    record {
-      halves = r .halves;
-      sequences =
-          stored (λ (i : ℕ) (s : Sequence). sequenceIn s ≡ true) 10 (p .tables .sequences) (numberAt b 0) (sequenceFrom b) emptySequence
-          (sequence-ranged b f) (r .sequences);
-      gates = r .gates;
-      subck = r .subck;
-      shutters = r .shutters;
-      field = r .field;
-      regions = r .regions;
-    })
+    let s =
+    stored (λ (i : ℕ) (s : Sequence). sequenceIn s ≡ true) 10 (t .sequences) (numberAt b 0) (sequenceFrom b) emptySequence
+    (sequence-ranged b f) (r .sequences) in
+    ranged _ (r .halves) s (r .gates) (r .subck) (r .shutters) (r .field) (r .regions))
+    (λ f. ranged _ (r .halves) (r .sequences) (r .gates) (r .subck) (r .shutters) (field-ranged b f) (region-ranged b f))
     (λ f.
-    record {
-      halves = r .halves;
-      sequences = r .sequences;
-      gates = r .gates;
-      subck = r .subck;
-      shutters = r .shutters;
-      field = field-ranged b f;
-      regions = region-ranged b f;
-    })
+    let g =
+    stored (λ (i : ℕ) (g : Gate). gateIn g ≡ true) 5 (t .gates) (numberAt b 0) (gateFrom b) emptyGate (gate-ranged b f) (r .gates) in
+    ranged _ (r .halves) (r .sequences) g (r .subck) (r .shutters) (r .field) (r .regions))
+    (λ f. ranged _ (r .halves) (r .sequences) (r .gates) (subck-ranged b f) (r .shutters) (r .field) (r .regions))
     (λ f.
-    record {
-      halves = r .halves;
-      sequences = r .sequences;
-      gates =
-          stored (λ (i : ℕ) (g : Gate). gateIn g ≡ true) 5 (p .tables .gates) (numberAt b 0) (gateFrom b) emptyGate
-          (gate-ranged b f) (r .gates);
-      subck = r .subck;
-      shutters = r .shutters;
-      field = r .field;
-      regions = r .regions;
-    })
-    (λ f.
-    record {
-      halves = r .halves;
-      sequences = r .sequences;
-      gates = r .gates;
-      subck = subck-ranged b f;
-      shutters = r .shutters;
-      field = r .field;
-      regions = r .regions;
-    })
-    (λ f.
-    record {
-      halves = r .halves;
-      sequences = r .sequences;
-      gates = r .gates;
-      subck = r .subck;
-      shutters =
-          stored (λ (i : ℕ) (s : Shutter). shutterIn s ≡ true) 2 (p .tables .shutters) (numberAt b 0) (shutterFrom b) emptyShutter
-          (shutter-ranged b f) (r .shutters);
-      field = r .field;
-      regions = r .regions;
-    })
+    let u =
+    stored (λ (i : ℕ) (s : Shutter). shutterIn s ≡ true) 2 (t .shutters) (numberAt b 0) (shutterFrom b) emptyShutter
+    (shutter-ranged b f) (r .shutters) in
+    ranged _ (r .halves) (r .sequences) (r .gates) (r .subck) u (r .field) (r .regions))

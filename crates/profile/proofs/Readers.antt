@@ -1,4 +1,4 @@
--- Laws of the readers in code: tests joined by `&`, a body's answer, items with a number, a register, a field and its regions.
+-- Laws of the readers in code: a test before others, a body's answer, items with a number, a register, a field and its regions.
 -- Assumes nothing.
 use mathlib.Core.Path.{_≡_, refl, sym, _∙_}
 use mathlib.Core.Bool.{Bool, true, false, not, _&&_, _||_}
@@ -21,37 +21,17 @@ use Rattle.profile.specs.declared.Region.{Region}
 use Rattle.profile.specs.declared.records.RegionAnswer.{RegionAnswer}
 use Rattle.profile.specs.declared.records.RegionsAnswer.{RegionsAnswer}
 use Rattle.profile.specs.declared.Profile.{Profile}
-use Rattle.profile.proofs.Laws.{and-left, and-right, all-one, all-append, chunks-more, length-ones}
+use Rattle.profile.proofs.Laws.{and-left, and-right, all-append, chunks-more, length-ones}
+use Rattle.profile.proofs.Tested.{joined-all}
 use Rattle.profile.proofs.Items.{field-count}
 
 -- ---- tests
-
--- tests joined one after the other, as the code joins them
-abbrev joined : Bool → List Bool → Bool
-joined a [] = a
-joined a (b ∷ l) = joined (a && b) l
-
-all-both : (a b : Bool) (l : List Bool) → all ((a && b) ∷ l) ≡ all (a ∷ b ∷ l)
-unfolding all
-all-both true b l = refl
-all-both false b l = refl
-
-pub all-joined : (a : Bool) (l : List Bool) → joined a l ≡ all (a ∷ l)
-all-joined a [] = sym (all-one a)
-all-joined a (b ∷ l) = all-joined (a && b) l ∙ all-both a b l
 
 -- one test before all others
 pub all-front : (a : Bool) (l : List Bool) → a && all l ≡ all (a ∷ l)
 unfolding all
 all-front true l = refl
 all-front false l = refl
-
--- what `if !f(..)` tells of the test that f computes
-pub told-no : {a b : Bool} → a ≡ b → not a ≡ true → b ≡ false
-told-no e n = sym e ∙ not-true _ n
-
-pub told-yes : {a b : Bool} → a ≡ b → not a ≡ false → b ≡ true
-told-yes e n = sym e ∙ not-false _ n
 
 -- a number that passed its test, which was joined with another
 pub passed-limit : (n k : ℕ) (r : Bool) → not (leb n k && r) ≡ false → n ≤ k
@@ -74,7 +54,7 @@ item-test range k n n′ s s′ r en es er = rw (er, es, en) (all-front _ _)
 pub register-test : (b : List ℕ) (a v : ℕ) → a ≡ getD b 0 0 → v ≡ dataAt b 1
     → leb a 119 && (not (eqb (a % 12) 0) || eqb (v / 64 % 64) 0) ≡ registerFits b
 unfolding registerFits
-register-test b a v ea ev = rw (ea, ev) (all-joined _ _)
+register-test b a v ea ev = rw (ea, ev) (joined-all _ _)
 
 -- ---- a field's regions
 

@@ -37,7 +37,7 @@ use Rattle.profile.specs.declared.Subck.{Subck}
 use Rattle.profile.specs.declared.Shutter.{Shutter}
 use Rattle.profile.specs.declared.Tables.{Tables}
 use Rattle.profile.specs.declared.Field.{Field}
-use Rattle.profile.proofs.Laws.{by-cases, and-left, and-right, and-intro, where-true, where-intro, or-cases, or-left, or-right, all-one, all-chunks, chunks-all}
+use Rattle.profile.proofs.Laws.{by-cases, and-left, and-right, and-intro, where-true, where-intro, or-cases, or-left, or-right, all-one, ones-at, ones-all}
 
 -- ---- comparisons and their joining
 
@@ -81,10 +81,7 @@ module _ {a b : Bool} {A B : Type 0} (f : Says a A) (g : Says b B) where
 
 -- a test of each number below n
 pub says-each : (n : ℕ) (b : ℕ → Bool) (A : ℕ → Type 0) → ((k : ℕ) → Says (b k) (A k)) → Says (all (chunks n (λ k. b k ∷ []))) ((k : ℕ) → k < n → A k)
-says-each n b A f = (
-  (λ e k h. f k .0 (sym (all-one (b k)) ∙ all-chunks n (λ k. b k ∷ []) e k h)),
-  λ w. chunks-all n (λ k. b k ∷ []) (λ k h. all-one (b k) ∙ f k .1 (w k h)),
-)
+says-each n b A f = ((λ e k h. f k .0 (ones-at n b e k h)), λ w. ones-all n b (λ k h. f k .1 (w k h)))
 
 -- one test in a list
 pub says-one : {b : Bool} {A : Type 0} → Says b A → Says (all (b ∷ [])) A

@@ -24,6 +24,7 @@ use Rattle.profile.specs.Values.{
 }
 use Rattle.profile.specs.Ranges.{inRange, fieldIn, regionIn}
 use Rattle.profile.specs.Rules.{checkProfile}
+use Rattle.profile.specs.Reading.{inField}
 use Rattle.profile.specs.Script.{next, records, readScript}
 use Rattle.profile.specs.Writing.{
   registerChunk,
@@ -71,7 +72,6 @@ use Rattle.profile.proofs.Bodies.{
   replaceGates,
   replaceSubck,
   replaceShutters,
-  replaceField,
   step-register,
   step-sequence,
   step-gate,
@@ -139,7 +139,7 @@ module _ (p : Profile) (z : Sized p) (r : Items p) where
   p2 = replaceSequences (p .tables .sequences) p1
 
   abbrev p3 : Profile
-  p3 = replaceField (p .field) p2
+  p3 = inField (p .field) p2
 
   abbrev p4 : Profile
   p4 = replaceGates (p .tables .gates) p3
@@ -191,7 +191,7 @@ module _ (p : Profile) (z : Sized p) (r : Items p) where
       takes-record (fieldRecord f) (10 + 6 * f .count) p2 p3 (length-record f (z .regions) e g (r .regions))
       (λ rest. step-field f (z .regions) e g (r .regions) rest p2))
       (λ e.
-      ap (λ (f : Field). replaceField f p2)
+      ap (λ (f : Field). inField f p2)
       (sym (absent-field (p .field) e (z .regions) (r .field) (r .regions))))
 
   takes-gates : Takes (chunks 5 (gateChunk (p .tables .gates))) p3 p4

@@ -22,7 +22,11 @@ pub tests-none : (t : ℕ → Bool) → true ≡ all (chunks 0 (λ i. t i ∷ []
 unfolding all chunks
 tests-none t = refl
 
+-- one test more
+pub tests-next : (n : ℕ) (t : ℕ → Bool) → all (chunks (n + 1) (λ i. t i ∷ [])) ≡ all (chunks n (λ i. t i ∷ [])) && t n
+tests-next n t = rw chunks-more (all-append (chunks n (λ i. t i ∷ [])) (t n ∷ []) ∙ rw all-one)
+
 -- a turn of a loop that joins test n to those before it
 pub tests-more : (n : ℕ) (t : ℕ → Bool) (a b : Bool) → a ≡ all (chunks n (λ i. t i ∷ [])) → b ≡ t n
     → a && b ≡ all (chunks (n + 1) (λ i. t i ∷ []))
-tests-more n t a b e f = rw (e, f) (sym (rw chunks-more (all-append (chunks n (λ i. t i ∷ [])) (t n ∷ []) ∙ rw all-one)))
+tests-more n t a b e f = rw (e, f) (sym (tests-next n t))

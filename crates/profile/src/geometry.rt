@@ -1,9 +1,10 @@
 // Regions, lines and their lengths: the product forms of the sums that the definitions are.
 use crate::Field;
-use crate::Mode;
 use crate::Region;
 use crate::Sequence;
 use crate::Tables;
+use crate::values::empty_region;
+use crate::values::empty_sequence;
 ghost use mathlib.Core.Path.{_≡_};
 ghost use Prim.Native.Nat.{_<_, _≤_, _+_, _*_};
 ghost use lib.Dec.{eqb};
@@ -42,11 +43,7 @@ pub fn region_at(field: Field, i: usize) -> Region
     if i < 7 {
         return field.regions[i];
     }
-    Region {
-        first: 0,
-        sequence: 0,
-        mode: Mode::Plain,
-    }
+    empty_region()
 }
 
 // The region of a line: the last that starts at or before it.
@@ -86,15 +83,7 @@ pub fn sequence_of(tables: Tables, k: u16) -> Sequence
     if k < 10 {
         return tables.sequences[k as usize];
     }
-    Sequence {
-        present: false,
-        pattern: 0,
-        length: 0,
-        start: 0,
-        odd: 0,
-        even: 0,
-        mask: 0,
-    }
+    empty_sequence()
 }
 
 // The sequence of region i.

@@ -1,14 +1,12 @@
 // Scripts and profiles. A profile is what a script carries: the 120 registers as 240 half registers, sequences, the field, gates, SUBCK and
 // shutters. Numbers are u16 as the records carry them, levels and on flags too (0 or 1); presence is a bool.
-ghost use mathlib.Core.Path.{_≡_};
-ghost use Rattle.profile.specs.Values.{accepted, refused};
-
 mod geometry;
 mod limits;
 mod patterns;
 mod ranges;
 mod records;
 mod rules;
+mod values;
 mod writing;
 
 pub use geometry::end_line;
@@ -25,13 +23,11 @@ pub use geometry::sequence_at;
 pub use geometry::sequence_of;
 pub use patterns::pattern_of;
 pub use patterns::rows_of;
-pub use patterns::used;
-pub use records::RecordAnswer;
-pub use records::empty;
 pub use records::read;
-pub use records::read_records;
-pub use records::record_at;
 pub use rules::check;
+pub use values::accept;
+pub use values::empty;
+pub use values::refuse;
 pub use writing::write;
 
 // How the six V outputs run in a region.
@@ -133,24 +129,4 @@ pub struct ReadAnswer {
 pub struct Written {
     pub verdict: Verdict,
     pub length: usize,
-}
-
-// The verdict of what is accepted.
-pub fn accept() -> Verdict
-    ensures { λ r. ⌜ r ≡ accepted ⌝ }
-{
-    Verdict {
-        number: 0,
-        place: 0,
-    }
-}
-
-// The verdict of a refusal by its number, at its place.
-pub fn refuse(number: u16, place: u64) -> Verdict
-    ensures { λ r. ⌜ r ≡ refused number place ⌝ }
-{
-    Verdict {
-        number: number,
-        place: place,
-    }
 }

@@ -69,7 +69,7 @@ pub fn rows_of(t: [u16; 18]) -> [[u16; 3]; 6]
 }
 
 // Whether a toggle is used in a mode.
-pub fn used(mode: Mode, length: u16, x: u16) -> bool
+pub(crate) fn used(mode: Mode, length: u16, x: u16) -> bool
     ensures { λ r. ⌜ r ≡ used mode length x ⌝ }
 {
     match mode {

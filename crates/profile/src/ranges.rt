@@ -1,16 +1,21 @@
 // The ranges of a profile handed in: a number that no record can carry, or an absent item that is not all zeros, is out of range.
 use crate::Field;
 use crate::Gate;
-use crate::Mode;
 use crate::Profile;
 use crate::Sequence;
 use crate::Shutter;
 use crate::Subck;
+use crate::limits::field_in_range;
+use crate::limits::gate_in_range;
+use crate::limits::region_in_range;
+use crate::limits::sequence_in_range;
+use crate::limits::shutter_in_range;
+use crate::limits::subck_in_range;
+use crate::values::mode_number;
 ghost use mathlib.Core.Path.{_≡_};
 ghost use Prim.Native.Nat.{_<_};
 ghost use lib.Dec.{leb};
 ghost use Rattle.profile.specs.Lists.{all, chunks};
-ghost use Rattle.profile.specs.Values.{modeNumber};
 ghost use Rattle.profile.specs.Ranges.{
   halfLimit,
   sequenceIn,
@@ -27,17 +32,6 @@ ghost use Rattle.profile.specs.Ranges.{
   inRange,
 };
 
-// The number of a mode.
-pub(crate) fn mode_number(mode: Mode) -> u16
-    ensures { λ r. ⌜ r ≡ modeNumber mode ⌝ }
-{
-    match mode {
-        Mode::Plain => 0,
-        Mode::Sweep => 1,
-        Mode::Multiplier => 2,
-    }
-}
-
 // Half register i.
 fn half_in(i: usize, half: u16) -> bool
     ensures { λ r. ⌜ r ≡ leb half (halfLimit i) ⌝ }
@@ -53,13 +47,7 @@ fn sequence_in(s: Sequence) -> bool
     ensures { λ r. ⌜ r ≡ sequenceIn s ⌝ }
 {
     if s.present {
-        (s.pattern <= 9)
-            & (1 <= s.length)
-            & (s.length <= 4095)
-            & (s.start <= 4095)
-            & (s.odd <= 4095)
-            & (s.even <= 4095)
-            & (s.mask <= 3)
+        sequence_in_range(s)
     } else {
         (s.pattern == 0)
             & (s.length == 0)
@@ -74,7 +62,7 @@ fn gate_in(g: Gate) -> bool
     ensures { λ r. ⌜ r ≡ gateIn g ⌝ }
 {
     if g.present {
-        (g.on <= 1) & (g.level <= 1) & (g.toggle1 <= 4095) & (g.toggle2 <= 4095)
+        gate_in_range(g)
     } else {
         (g.on == 0) & (g.level == 0) & (g.toggle1 == 0) & (g.toggle2 == 0)
     }
@@ -84,11 +72,7 @@ fn subck_in(s: Subck) -> bool
     ensures { λ r. ⌜ r ≡ subckIn s ⌝ }
 {
     if s.present {
-        (s.level <= 1)
-            & (s.toggle1 <= 4095)
-            & (s.toggle2 <= 4095)
-            & (s.suppressed <= 4095)
-            & (s.count <= 4095)
+        subck_in_range(s)
     } else {
         (s.level == 0) & (s.toggle1 == 0) & (s.toggle2 == 0) & (s.suppressed == 0) & (s.count == 0)
     }
@@ -98,11 +82,7 @@ fn shutter_in(s: Shutter) -> bool
     ensures { λ r. ⌜ r ≡ shutterIn s ⌝ }
 {
     if s.present {
-        (s.active <= 1)
-            & (s.on_line <= 4095)
-            & (s.on_pixel <= 4095)
-            & (s.off_line <= 4095)
-            & (s.off_pixel <= 4095)
+        shutter_in_range(s)
     } else {
         (s.active == 0)
             & (s.on_line == 0)
@@ -117,14 +97,7 @@ fn field_in(f: Field) -> bool
     ensures { λ r. ⌜ r ≡ fieldIn f ⌝ }
 {
     if f.present {
-        ((f.second == 65535) | (f.second <= 9))
-            & (1 <= f.lines)
-            & (f.lines <= 4095)
-            & (1 <= f.last)
-            & (f.last <= 4095)
-            & (f.gate <= 4094)
-            & (1 <= f.count)
-            & (f.count <= 7)
+        field_in_range(f)
     } else {
         (f.lines == 0) & (f.last == 0) & (f.gate == 0) & (f.second == 0) & (f.count == 0)
     }
@@ -139,7 +112,7 @@ fn region_in(f: Field, i: usize) -> bool
     let mode = region.mode;
     let number = mode_number(mode);
     if i < f.count as usize {
-        (region.first <= 4094) & (region.sequence <= 9)
+        region_in_range(region)
     } else {
         (region.first == 0) & (region.sequence == 0) & (number == 0)
     }

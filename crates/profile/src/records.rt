@@ -1,7 +1,6 @@
 // Reading a script record by record: refusals 2 to 5. Each record's body goes to the reader of its kind as a part of the script.
 use crate::Field;
 use crate::Gate;
-use crate::Mode;
 use crate::Profile;
 use crate::ReadAnswer;
 use crate::Region;
@@ -10,30 +9,24 @@ use crate::Shutter;
 use crate::Subck;
 use crate::Tables;
 use crate::Verdict;
+use crate::accept;
+use crate::empty;
 use crate::limits::field_in_range;
 use crate::limits::gate_in_range;
 use crate::limits::region_in_range;
 use crate::limits::sequence_in_range;
 use crate::limits::shutter_in_range;
 use crate::limits::subck_in_range;
+use crate::refuse;
 use crate::rules::judge;
+use crate::values::empty_region;
+use crate::values::mode_of;
 ghost use mathlib.Core.Path.{_≡_};
-ghost use mathlib.Core.Bool.{true};
+ghost use mathlib.Core.Bool.{true, false};
 ghost use Prim.Native.Nat.{_+_, _*_, _<_, _≤_};
 ghost use lib.ListN.{length, drop};
 ghost use Rattle.profile.specs.Bytes.{numberAt, dataAt};
-ghost use Rattle.profile.specs.Values.{
-  modeOf,
-  emptyRegion,
-  emptySequence,
-  emptyGate,
-  emptySubck,
-  emptyShutter,
-  emptyField,
-  emptyTables,
-  emptyProfile,
-  readAnswer,
-};
+ghost use Rattle.profile.specs.Values.{emptyProfile, readAnswer};
 ghost use Rattle.profile.specs.Script.{
   sequenceFrom,
   gateFrom,
@@ -55,6 +48,7 @@ ghost use Rattle.profile.specs.Reading.{
   gateAnswer,
   subckAnswer,
   shutterAnswer,
+  inTables,
   bodyAnswer,
   headFrom,
   regionAnswer,
@@ -63,118 +57,6 @@ ghost use Rattle.profile.specs.Reading.{
   foundAt,
   stepAnswer,
 };
-
-// ---- the empty profile
-
-fn make_region() -> Region
-    ensures { λ r. ⌜ r ≡ emptyRegion ⌝ }
-{
-    Region {
-        first: 0,
-        sequence: 0,
-        mode: Mode::Plain,
-    }
-}
-
-fn make_sequence() -> Sequence
-    ensures { λ r. ⌜ r ≡ emptySequence ⌝ }
-{
-    Sequence {
-        present: false,
-        pattern: 0,
-        length: 0,
-        start: 0,
-        odd: 0,
-        even: 0,
-        mask: 0,
-    }
-}
-
-fn make_gate() -> Gate
-    ensures { λ r. ⌜ r ≡ emptyGate ⌝ }
-{
-    Gate {
-        present: false,
-        on: 0,
-        level: 0,
-        toggle1: 0,
-        toggle2: 0,
-    }
-}
-
-fn make_subck() -> Subck
-    ensures { λ r. ⌜ r ≡ emptySubck ⌝ }
-{
-    Subck {
-        present: false,
-        level: 0,
-        toggle1: 0,
-        toggle2: 0,
-        suppressed: 0,
-        count: 0,
-    }
-}
-
-fn make_shutter() -> Shutter
-    ensures { λ r. ⌜ r ≡ emptyShutter ⌝ }
-{
-    Shutter {
-        present: false,
-        active: 0,
-        on_line: 0,
-        on_pixel: 0,
-        off_line: 0,
-        off_pixel: 0,
-    }
-}
-
-fn make_tables() -> Tables
-    ensures { λ r. ⌜ r ≡ emptyTables ⌝ }
-{
-    let sequence = make_sequence();
-    let gate = make_gate();
-    let subck = make_subck();
-    let shutter = make_shutter();
-    let registers = [0u16; 240];
-    let sequences = [sequence; 10];
-    let gates = [gate; 5];
-    let shutters = [shutter; 2];
-    Tables {
-        registers: registers,
-        sequences: sequences,
-        gates: gates,
-        subck: subck,
-        shutters: shutters,
-    }
-}
-
-fn make_field() -> Field
-    ensures { λ r. ⌜ r ≡ emptyField ⌝ }
-{
-    let region = make_region();
-    let regions = [region; 7];
-    Field {
-        present: false,
-        lines: 0,
-        last: 0,
-        gate: 0,
-        second: 0,
-        count: 0,
-        regions: regions,
-    }
-}
-
-// The empty profile: nothing present, all zeros.
-pub fn empty() -> Profile
-    ensures { λ r. ⌜ r ≡ emptyProfile ⌝ }
-{
-    let tables = make_tables();
-    let field = make_field();
-    Profile {
-        tables: tables,
-        field: field,
-    }
-}
 
 // ---- numbers of a body, little-endian
 
@@ -214,6 +96,28 @@ pub struct BodyAnswer {
     pub profile: Profile,
 }
 
+// The answer of a body that is out of range.
+fn unfit(profile: Profile) -> BodyAnswer
+    ensures { λ r. ⌜ r ≡ bodyAnswer false profile profile ⌝ }
+{
+    BodyAnswer {
+        fits: false,
+        profile: profile,
+    }
+}
+
+// The answer of a body whose item is in the tables now.
+fn with_tables(tables: Tables, profile: Profile) -> BodyAnswer
+    ensures { λ r. ⌜ r ≡ bodyAnswer true (inTables tables profile) profile ⌝ }
+{
+    let mut after = profile;
+    after.tables = tables;
+    BodyAnswer {
+        fits: true,
+        profile: after,
+    }
+}
+
 // Kind 1: the halves of the register at an address.
 fn read_register(body: &[u8], profile: Profile) -> BodyAnswer
     requires { ⌜ length (now body) ≡ 4 ⌝ }
@@ -223,21 +127,13 @@ fn read_register(body: &[u8], profile: Profile) -> BodyAnswer
     let data = data_at(body, 1);
     let fits = (address <= 119) & ((address % 12 != 0) | (data / 64 % 64 == 0));
     if !fits {
-        return BodyAnswer {
-            fits: false,
-            profile: profile,
-        };
+        return unfit(profile);
     }
     let i = 2 * (address as usize);
     let mut tables = profile.tables;
     tables.registers[i] = (data % 4096) as u16;
     tables.registers[i + 1] = (data / 4096) as u16;
-    let mut after = profile;
-    after.tables = tables;
-    BodyAnswer {
-        fits: true,
-        profile: after,
-    }
+    with_tables(tables, profile)
 }
 
 fn sequence_from(body: &[u8]) -> Sequence
@@ -264,20 +160,12 @@ fn read_sequence(body: &[u8], profile: Profile) -> BodyAnswer
     let sequence = sequence_from(body);
     let fits = (number <= 9) & sequence_in_range(sequence);
     if !fits {
-        return BodyAnswer {
-            fits: false,
-            profile: profile,
-        };
+        return unfit(profile);
     }
     let i = number as usize;
     let mut tables = profile.tables;
     tables.sequences[i] = sequence;
-    let mut after = profile;
-    after.tables = tables;
-    BodyAnswer {
-        fits: true,
-        profile: after,
-    }
+    with_tables(tables, profile)
 }
 
 fn gate_from(body: &[u8]) -> Gate
@@ -302,20 +190,12 @@ fn read_gate(body: &[u8], profile: Profile) -> BodyAnswer
     let gate = gate_from(body);
     let fits = (number <= 4) & gate_in_range(gate);
     if !fits {
-        return BodyAnswer {
-            fits: false,
-            profile: profile,
-        };
+        return unfit(profile);
     }
     let i = number as usize;
     let mut tables = profile.tables;
     tables.gates[i] = gate;
-    let mut after = profile;
-    after.tables = tables;
-    BodyAnswer {
-        fits: true,
-        profile: after,
-    }
+    with_tables(tables, profile)
 }
 
 fn subck_from(body: &[u8]) -> Subck
@@ -339,19 +219,11 @@ fn read_subck(body: &[u8], profile: Profile) -> BodyAnswer
 {
     let subck = subck_from(body);
     if !subck_in_range(subck) {
-        return BodyAnswer {
-            fits: false,
-            profile: profile,
-        };
+        return unfit(profile);
     }
     let mut tables = profile.tables;
     tables.subck = subck;
-    let mut after = profile;
-    after.tables = tables;
-    BodyAnswer {
-        fits: true,
-        profile: after,
-    }
+    with_tables(tables, profile)
 }
 
 fn shutter_from(body: &[u8]) -> Shutter
@@ -377,20 +249,12 @@ fn read_shutter(body: &[u8], profile: Profile) -> BodyAnswer
     let shutter = shutter_from(body);
     let fits = (number <= 1) & shutter_in_range(shutter);
     if !fits {
-        return BodyAnswer {
-            fits: false,
-            profile: profile,
-        };
+        return unfit(profile);
     }
     let i = number as usize;
     let mut tables = profile.tables;
     tables.shutters[i] = shutter;
-    let mut after = profile;
-    after.tables = tables;
-    BodyAnswer {
-        fits: true,
-        profile: after,
-    }
+    with_tables(tables, profile)
 }
 
 // ---- a field's regions
@@ -405,16 +269,6 @@ pub struct RegionAnswer {
 pub struct RegionsAnswer {
     pub fits: bool,
     pub regions: [Region; 7],
-}
-
-fn mode_of(n: u16) -> Mode
-    ensures { λ r. ⌜ r ≡ modeOf n ⌝ }
-{
-    match n {
-        0 => Mode::Plain,
-        1 => Mode::Sweep,
-        _ => Mode::Multiplier,
-    }
 }
 
 // Region i of a field's body, and whether its numbers are in range.
@@ -441,7 +295,7 @@ fn regions_from(body: &[u8], count: usize) -> RegionsAnswer
     requires { ⌜ (10 + 6 * count ≤ length (now body)) × (count ≤ 7) ⌝ }
     ensures { λ r. ⌜ r ≡ regionsAnswer (now (body .entry)) count ⌝ }
 {
-    let none = make_region();
+    let none = empty_region();
     let mut regions = [none; 7];
     let mut fits = true;
     let mut i: usize = 0;
@@ -463,7 +317,7 @@ fn head_from(body: &[u8]) -> Field
     requires { ⌜ 9 < length (now body) ⌝ }
     ensures { λ r. ⌜ r ≡ headFrom (now (body .entry)) ⌝ }
 {
-    let none = make_region();
+    let none = empty_region();
     let regions = [none; 7];
     Field {
         present: true,
@@ -481,19 +335,15 @@ fn read_field(body: &[u8], profile: Profile) -> BodyAnswer
     requires { ⌜ 9 < length (now body) ⌝ }
     ensures { λ r. ⌜ r ≡ fieldAnswer (now (body .entry)) profile ⌝ }
 {
-    let bad = BodyAnswer {
-        fits: false,
-        profile: profile,
-    };
     let head = head_from(body);
     let count = head.count as usize;
     let fits = (10 + 6 * count == body.len()) & field_in_range(head);
     if !fits {
-        return bad;
+        return unfit(profile);
     }
     let given = regions_from(body, count);
     if !given.fits {
-        return bad;
+        return unfit(profile);
     }
     let regions = given.regions;
     let mut field = head;
@@ -609,7 +459,7 @@ pub(crate) fn found_at(script: &[u8], at: usize) -> Found
 }
 
 // One record at an offset of the script, put into the profile. Past the end there is none: 2.
-pub fn record_at(script: &[u8], at: usize, profile: Profile) -> RecordAnswer
+pub(crate) fn record_at(script: &[u8], at: usize, profile: Profile) -> RecordAnswer
     ensures { λ r. ⌜ r ≡ stepAnswer at profile (step (drop at (now (script .entry))) profile) ⌝ }
 {
     let found = found_at(script, at);
@@ -658,7 +508,7 @@ fn make_answer(verdict: Verdict, profile: Profile) -> ReadAnswer
 }
 
 // The profile of a script's records, or the first refusal with its record's offset and the empty profile.
-pub fn read_records(script: &[u8]) -> ReadAnswer
+pub(crate) fn read_records(script: &[u8]) -> ReadAnswer
     ensures { λ r. ⌜ r ≡ records 0 0 (now (script .entry)) emptyProfile ⌝ }
 {
     let mut profile = empty();
@@ -666,20 +516,12 @@ pub fn read_records(script: &[u8]) -> ReadAnswer
     while at < script.len() {
         let answer = record_at(script, at, profile);
         if answer.number != 0 {
-            let refusal = Verdict {
-                number: answer.number,
-                place: at as u64,
-            };
-            return make_answer(refusal, profile);
+            return make_answer(refuse(answer.number, at as u64), profile);
         }
         profile = answer.profile;
         at = answer.next;
     }
-    let verdict = Verdict {
-        number: 0,
-        place: 0,
-    };
-    make_answer(verdict, profile)
+    make_answer(accept(), profile)
 }
 
 // Reads a script: its length (1), its records (2 to 5), then what is judged of the profile (6 to 17).
@@ -687,11 +529,7 @@ pub fn read(script: &[u8]) -> ReadAnswer
     ensures { λ r. ⌜ r ≡ readScript (now (script .entry)) ⌝ }
 {
     if 16384 < script.len() {
-        let refusal = Verdict {
-            number: 1,
-            place: 0,
-        };
-        return make_answer(refusal, empty());
+        return make_answer(refuse(1, 0), empty());
     }
     let taken = read_records(script);
     let verdict = taken.verdict;

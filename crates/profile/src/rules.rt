@@ -46,7 +46,6 @@ ghost use Rattle.profile.specs.Rules.{
   secondRight,
   gateRight,
   subckRight,
-  comesBefore,
   shutterRight,
   orderEntries,
   entriesAt,

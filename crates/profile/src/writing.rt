@@ -2,15 +2,15 @@
 use crate::Field;
 use crate::Gate;
 use crate::Profile;
-use crate::Region;
 use crate::Sequence;
 use crate::Shutter;
 use crate::Subck;
-use crate::Verdict;
 use crate::Written;
+use crate::accept;
 use crate::geometry::region_count;
-use crate::ranges::mode_number;
+use crate::refuse;
 use crate::rules::check;
+use crate::values::mode_number;
 ghost use mathlib.Core.Path.{_≡_};
 ghost use mathlib.Core.Bool.{cond};
 ghost use mathlib.Core.List.{[]};
@@ -19,14 +19,12 @@ ghost use lib.ListN.{length};
 ghost use lib.Seq.{sets};
 ghost use Rattle.profile.specs.Lists.{chunks, over};
 ghost use Rattle.profile.specs.Bytes.{twoBytes};
-ghost use Rattle.profile.specs.Geometry.{regionCount};
 ghost use Rattle.profile.specs.Writing.{
   registerRecord,
   registerChunk,
   sequenceRecord,
   sequenceChunk,
   regionBytes,
-  fieldRecord,
   fieldChunk,
   gateRecord,
   gateChunk,
@@ -369,19 +367,13 @@ pub fn write(profile: Profile, out: &mut [u8]) -> Written
     let n = script_length(profile);
     if out.len() < n {
         return Written {
-            verdict: Verdict {
-                number: 18,
-                place: n as u64,
-            },
+            verdict: refuse(18, n as u64),
             length: 0,
         };
     }
     put_script(profile, out);
     Written {
-        verdict: Verdict {
-            number: 0,
-            place: 0,
-        },
+        verdict: accept(),
         length: n,
     }
 }

@@ -28,7 +28,10 @@ region-at-requires c κs = search needs
 
 returns-2 : tie.Need-returns-2
 unfolding endLine
-returns-2 c = let b = c .before .before in let e = b .region-count .ensures .0 in rw (lt-ltb _ _ (rw e at (c .before .if2 .taken))) (ap (λ (r : Region). r .first) (c .region-at .ensures))
+returns-2 c =
+    let b = c .before .before in
+    let e = b .region-count .ensures .0 in
+    rw (lt-ltb _ _ (rw e at (c .before .if2 .taken))) (ap (λ (r : Region). r .first) (c .region-at .ensures))
 
 returns-3 : tie.Need-returns-3
 unfolding endLine

@@ -10,7 +10,8 @@ use Rattle.profile.proofs.geometry.pixel_count.Statement.{statement}
 use Rattle.profile.proofs.geometry.pixel_count.Tie as tie
 
 abbrev Inv-loop : tie.InvT-loop
-Inv-loop tables field lines line₀ pixels₀ line pixels = (line ≤ lines) × (lines ≡ field .lines) × (lines ≤ 65535) × (pixels ≡ pixelsBefore tables field line) × (pixels ≤ line * 65535)
+Inv-loop tables field lines line₀ pixels₀ line pixels =
+    (line ≤ lines) × (lines ≡ field .lines) × (lines ≤ 65535) × (pixels ≡ pixelsBefore tables field line) × (pixels ≤ line * 65535)
 
 abbrev μ-loop : tie.MeasureT-loop
 μ-loop tables field lines line₀ pixels₀ line pixels = lines - line

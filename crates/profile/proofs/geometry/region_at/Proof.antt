@@ -1,6 +1,6 @@
 -- Past the seventh there is no region, and the definition reads the all-zero one.
 -- Assumes nothing.
-use mathlib.Core.Path.{_≡_, sym}
+use mathlib.Core.Path.{_≡_, sym, _∙_}
 use lib.ListN.{length, List·getD-eq-default}
 use Rattle.profile.proofs.Laws.{length-unmapped}
 use borrow.Author.Needs.{needs}
@@ -17,8 +17,15 @@ element-copy-out-result c = search needs
 returns : tie.Need-returns
 returns c = search needs
 
+empty-region-requires : tie.Need-empty-region-requires
+empty-region-requires c κs = search needs
+
 returns-2 : tie.Need-returns-2
-returns-2 c = let f = c .before .args .t1 in let e : length (f .regions) ≡ 7 = search length-unmapped in sym (List·getD-eq-default (f .regions) _ (omega (arith, c .if1 .left)))
+returns-2 c =
+    let f = c .before .before .args .t1 in
+    let e : length (f .regions) ≡ 7 = search length-unmapped in
+    c .empty-region .ensures ∙ sym (List·getD-eq-default (f .regions) _ (omega (arith, c .before .if1 .left)))
 
 pub region-at-spec : {M : Type 1} → statement M
-region-at-spec = tie.close (tie.spec mul-result element-copy-out-result returns returns-2)
+region-at-spec =
+    tie.close (tie.spec mul-result element-copy-out-result returns empty-region-requires returns-2)

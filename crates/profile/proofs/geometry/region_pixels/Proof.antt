@@ -16,7 +16,10 @@ lines-pixels-requires : tie.Need-lines-pixels-requires
 lines-pixels-requires c κs = search needs
 
 returns : tie.Need-returns
-returns c = let a = c .before .before .before .args in (c .lines-pixels .ensures .0 ∙ rw (c .before .before .region-at .ensures, c .before .sequence-at .ensures) (sym (size-product (a .tables) (a .field) (a .i) (a .line))), c .lines-pixels .ensures .1)
+returns c =
+    let a = c .before .before .before .args in
+    let e = sym (size-product (a .tables) (a .field) (a .i) (a .line)) in
+    (c .lines-pixels .ensures .0 ∙ rw (c .before .before .region-at .ensures, c .before .sequence-at .ensures) e, c .lines-pixels .ensures .1)
 
 pub region-pixels-spec : {M : Type 1} → statement M
 region-pixels-spec =

@@ -1,6 +1,6 @@
 -- Past the tenth there is no sequence, and the definition reads the all-zero one.
 -- Assumes nothing.
-use mathlib.Core.Path.{_≡_, sym}
+use mathlib.Core.Path.{_≡_, sym, _∙_}
 use lib.ListN.{length, List·getD-eq-default}
 use Rattle.profile.proofs.Laws.{length-unmapped}
 use borrow.Author.Needs.{needs}
@@ -17,8 +17,16 @@ element-copy-out-result c = search needs
 returns : tie.Need-returns
 returns c = search needs
 
+empty-sequence-requires : tie.Need-empty-sequence-requires
+empty-sequence-requires c κs = search needs
+
 returns-2 : tie.Need-returns-2
-returns-2 c = let t = c .before .args .t1 in let e : length (t .sequences) ≡ 10 = search length-unmapped in sym (List·getD-eq-default (t .sequences) _ (omega (arith, c .if1 .left)))
+returns-2 c =
+    let t = c .before .before .args .t1 in
+    let e : length (t .sequences) ≡ 10 = search length-unmapped in
+    c .empty-sequence .ensures ∙ sym (List·getD-eq-default (t .sequences) _ (omega (arith, c .before .if1 .left)))
 
 pub sequence-of-spec : {M : Type 1} → statement M
-sequence-of-spec = tie.close (tie.spec mul-result element-copy-out-result returns returns-2)
+sequence-of-spec =
+    tie.close
+    (tie.spec mul-result element-copy-out-result returns empty-sequence-requires returns-2)

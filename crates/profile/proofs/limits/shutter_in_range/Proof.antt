@@ -1,11 +1,11 @@
 -- The tests are those of the definition, joined in its order.
 -- Assumes nothing.
-use Rattle.profile.proofs.Readers.{all-joined}
+use Rattle.profile.proofs.Tested.{joined-all}
 use Rattle.profile.proofs.limits.shutter_in_range.Statement.{statement}
 use Rattle.profile.proofs.limits.shutter_in_range.Tie as tie
 
 returns : tie.Need-returns
-returns c = all-joined _ _
+returns c = joined-all _ _
 
 pub shutter-in-range-spec : {M : Type 1} → statement M
 shutter-in-range-spec = tie.close (tie.spec returns)

@@ -1,4 +1,4 @@
--- By its place and the count; the tests joined are those of the list.
+-- By its place and the count: its ranges, or the tests joined are those of the list.
 -- Assumes nothing.
 use Rattle.profile.proofs.Tested.{joined-all}
 use Rattle.profile.specs.Ranges.{regionIn}
@@ -19,9 +19,12 @@ mode-number-requires c κs = search needs
 cast-if1 : tie.Need-cast-if1
 cast-if1 c = search needs
 
+region-in-range-requires : tie.Need-region-in-range-requires
+region-in-range-requires c κs = search needs
+
 returns : tie.Need-returns
 unfolding regionIn
-returns c = rw (lt-ltb _ _ (c .before .before .if1 .taken)) (joined-all _ _)
+returns c = rw (lt-ltb _ _ (c .before .if1 .taken)) (c .region-in-range .ensures)
 
 returns-2 : tie.Need-returns-2
 unfolding regionIn
@@ -30,4 +33,11 @@ returns-2 c = rw (le-ltb _ _ (c .before .before .if1 .left), ← c .before .befo
 pub region-in-spec : {M : Type 1} → statement M
 region-in-spec =
     tie.close
-    (tie.spec mul-region element-copy-out-region mode-number-requires cast-if1 returns returns-2)
+    (tie.spec
+    mul-region
+    element-copy-out-region
+    mode-number-requires
+    cast-if1
+    region-in-range-requires
+    returns
+    returns-2)

@@ -1,7 +1,7 @@
 -- Each return is the answer of the definition where the tests before it passed and its own failed.
 -- Assumes nothing.
 use mathlib.Core.Path.{_∙_}
-use Rattle.profile.proofs.Readers.{told-no, told-yes}
+use Rattle.profile.proofs.Laws.{told-no, told-yes}
 use Rattle.profile.proofs.OneRecord.{head-cut, kind-unknown, length-wrong, body-cut, body-found}
 use borrow.Author.Needs.{needs}
 use native.Mathlib.Omega.{arith}

@@ -4,8 +4,8 @@ use borrow.Author.Needs.{needs}
 use Rattle.profile.proofs.records.head_from.Statement.{statement}
 use Rattle.profile.proofs.records.head_from.Tie as tie
 
-make-region-requires : tie.Need-make-region-requires
-make-region-requires c κs = search needs
+empty-region-requires : tie.Need-empty-region-requires
+empty-region-requires c κs = search needs
 
 number-at-requires : tie.Need-number-at-requires
 number-at-requires c κs = search needs
@@ -29,7 +29,7 @@ pub head-from-spec : {M : Type 1} → statement M
 head-from-spec =
     tie.close
     (tie.spec
-    make-region-requires
+    empty-region-requires
     number-at-requires
     number-at-requires-2
     number-at-requires-3

@@ -28,6 +28,9 @@ module _ (s : List ℕ) where
     unfolding readScript
     taken z = rw (le-leb (length s) 16384 h, ← e, eq-eqb (t .verdict .number) 0 z)
 
+refuse-requires : tie.Need-refuse-requires
+refuse-requires c κs = search needs
+
 empty-requires : tie.Need-empty-requires
 empty-requires c κs = search needs
 
@@ -35,7 +38,7 @@ make-answer-requires : tie.Need-make-answer-requires
 make-answer-requires c κs = search needs
 
 returns : tie.Need-returns
-returns c = c .make-answer .ensures ∙ long _ (c .before .before .if1 .taken)
+returns c = c .make-answer .ensures ∙ rw (c .before .before .refuse .ensures) (long _ (c .before .before .before .if1 .taken))
 
 read-records-requires : tie.Need-read-records-requires
 read-records-requires c κs = search needs
@@ -60,6 +63,7 @@ pub read-spec : {M : Type 1} → statement M
 read-spec =
     tie.close
     (tie.spec
+    refuse-requires
     empty-requires
     make-answer-requires
     returns

@@ -26,38 +26,44 @@ loop-holds c = read-start _ _ (c .empty .ensures)
 record-at-requires : tie.Need-record-at-requires Inv-loop μ-loop
 record-at-requires c κs = search needs
 
+refuse-requires : tie.Need-refuse-requires Inv-loop μ-loop
+refuse-requires c κs = search needs
+
 make-answer-requires : tie.Need-make-answer-requires Inv-loop μ-loop
 make-answer-requires c κs = search needs
 
 returns : tie.Need-returns Inv-loop μ-loop
 returns c =
-    let l = c .before .before .before .before .before .loop in
-    let s = c .before .before .before .before .before .before .before .before .args .script .now in
-    c .make-answer .ensures ∙ read-stop s (l .at) (l .profile) _ (c .before .before .before .record-at .ensures)
-    (c .before .before .before .before .loop-test .taken) (c .before .if1 .taken) ∙ l .inv
+    let d = c .before .before .before .before in
+    let l = d .before .before .loop in
+    let s = d .before .before .before .before .before .args .script .now in
+    c .make-answer .ensures ∙ rw (c .before .refuse .ensures)
+    (read-stop s (l .at) (l .profile) _ (d .record-at .ensures) (d .before .loop-test .taken) (c .before .before .if1 .taken) ∙ l .inv)
 
 loop-less : tie.Need-loop-less Inv-loop μ-loop
 loop-less c =
-    let l = c .before .before .before .before .before .loop in
-    let s = c .before .before .before .before .before .before .before .before .args .script .now in
-    omega (
-      arith,
-      c .before .before .before .before .loop-test .taken,
-      further s (l .at) (l .profile) _
-          (c .before .before .before .record-at .ensures) (c .before .if1 .left),
-    )
+    let d = c .before .before .before in
+    let l = d .before .before .loop in
+    let s = d .before .before .before .before .before .args .script .now in
+    omega (arith, d .before .loop-test .taken, further s (l .at) (l .profile) _ (d .record-at .ensures) (c .before .if1 .left))
 
 loop-again : tie.Need-loop-again Inv-loop μ-loop
 loop-again c =
-    let l = c .before .before .before .before .before .loop in
-    let s = c .before .before .before .before .before .before .before .before .args .script .now in
-    read-on s (l .at) (l .profile) _ (c .before .before .before .record-at .ensures) (c .before .if1 .left) ∙ l .inv
+    let d = c .before .before .before in
+    let l = d .before .before .loop in
+    let s = d .before .before .before .before .before .args .script .now in
+    read-on s (l .at) (l .profile) _ (d .record-at .ensures) (c .before .if1 .left) ∙ l .inv
+
+accept-requires : tie.Need-accept-requires Inv-loop μ-loop
+accept-requires c κs = search needs
 
 make-answer-requires-2 : tie.Need-make-answer-requires-2 Inv-loop μ-loop
 make-answer-requires-2 c κs = search needs
 
 returns-2 : tie.Need-returns-2 Inv-loop μ-loop
-returns-2 c = c .make-answer2 .ensures ∙ read-end _ _ _ (c .before .loop-test .left) ∙ c .before .before .loop .inv
+returns-2 c =
+    c .make-answer2 .ensures ∙ rw (c .before .accept .ensures)
+    (read-end _ _ _ (c .before .before .loop-test .left) ∙ c .before .before .before .loop .inv)
 
 pub read-records-spec : {M : Type 1} → statement M
 read-records-spec =
@@ -68,9 +74,11 @@ read-records-spec =
     empty-requires
     loop-holds
     record-at-requires
+    refuse-requires
     make-answer-requires
     returns
     loop-less
     loop-again
+    accept-requires
     make-answer-requires-2
     returns-2)

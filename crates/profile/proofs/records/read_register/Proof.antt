@@ -1,6 +1,8 @@
 -- The address and the data are those of the body, so the test is that of the definition; where it holds both halves are stored.
 -- Assumes nothing.
-use Rattle.profile.proofs.Readers.{told-no, told-yes, passed-limit, body-no, body-yes, register-test}
+use mathlib.Core.Path.{_∙_}
+use Rattle.profile.proofs.Laws.{told-no, told-yes}
+use Rattle.profile.proofs.Readers.{passed-limit, body-no, body-yes, register-test}
 use borrow.Author.Needs.{needs}
 use native.Mathlib.Omega.{arith}
 use Rattle.profile.proofs.records.read_register.Statement.{statement}
@@ -15,11 +17,14 @@ wide-requires c κs = search needs
 data-at-requires : tie.Need-data-at-requires
 data-at-requires c κs = search needs
 
+unfit-requires : tie.Need-unfit-requires
+unfit-requires c κs = search needs
+
 returns : tie.Need-returns
 returns c =
-    let d = c .before in
+    let d = c .before .before in
     let t = register-test _ _ _ (d .before .wide .ensures .0) (d .data-at .ensures .0) in
-    body-no _ _ _ (told-no t (c .if1 .taken))
+    c .unfit .ensures ∙ body-no _ _ _ (told-no t (c .before .if1 .taken))
 
 cast-i : tie.Need-cast-i
 cast-i c = search needs
@@ -48,11 +53,14 @@ mul-tables-2 c = search needs
 element-write-tables-2 : tie.Need-element-write-tables-2
 element-write-tables-2 c = omega (arith, passed-limit (c .before .before .before .wide .result) 119 _ (c .before .if1 .left))
 
+with-tables-requires : tie.Need-with-tables-requires
+with-tables-requires c κs = search needs
+
 returns-2 : tie.Need-returns-2
 returns-2 c =
-    let d = c .before .before in
+    let d = c .before .before .before in
     let t = register-test _ _ _ (d .before .wide .ensures .0) (d .data-at .ensures .0) in
-    body-yes _ _ _ _ (told-yes t (c .before .if1 .left)) (rw (d .before .wide .ensures .0, d .data-at .ensures .0))
+    c .with-tables .ensures ∙ body-yes _ _ _ _ (told-yes t (c .before .before .if1 .left)) (rw (d .before .wide .ensures .0, d .data-at .ensures .0))
 
 pub read-register-spec : {M : Type 1} → statement M
 read-register-spec =
@@ -61,6 +69,7 @@ read-register-spec =
     shared-slice-read-wide
     wide-requires
     data-at-requires
+    unfit-requires
     returns
     cast-i
     mul-i
@@ -71,4 +80,5 @@ read-register-spec =
     add-tables
     mul-tables-2
     element-write-tables-2
+    with-tables-requires
     returns-2)

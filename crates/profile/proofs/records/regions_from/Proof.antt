@@ -22,12 +22,12 @@ Inv-loop body count regions₀ fits₀ i₀ regions fits i =
 abbrev μ-loop : tie.MeasureT-loop
 μ-loop body count regions₀ fits₀ i₀ regions fits i = count - i
 
-make-region-requires : tie.Need-make-region-requires Inv-loop μ-loop
-make-region-requires c κs = search needs
+empty-region-requires : tie.Need-empty-region-requires Inv-loop μ-loop
+empty-region-requires c κs = search needs
 
 loop-holds : tie.Need-loop-holds Inv-loop μ-loop
 unfolding all chunks
-loop-holds c = (omega arith, refl, refl, rw (c .make-region .ensures))
+loop-holds c = (omega arith, refl, refl, rw (c .empty-region .ensures))
 
 region-from-requires : tie.Need-region-from-requires Inv-loop μ-loop
 region-from-requires c κs = omega arith
@@ -63,7 +63,7 @@ regions-from-spec =
     (tie.spec
     Inv-loop
     μ-loop
-    make-region-requires
+    empty-region-requires
     loop-holds
     region-from-requires
     mul-regions

@@ -1,6 +1,5 @@
 -- 5 where a number is out of range; else the judging decides.
 -- Assumes nothing.
-use mathlib.Core.Path.{_∙_, sym}
 use Rattle.profile.specs.Rules.{checkProfile}
 use Rattle.profile.proofs.Laws.{told-no, told-yes}
 use borrow.Author.Needs.{needs}

@@ -26,7 +26,11 @@ refuse-requires-3 : tie.Need-refuse-requires-3
 refuse-requires-3 c κs = search needs
 
 returns-3 : tie.Need-returns-3
-returns-3 c = c .refuse3 .ensures ∙ broken-10 _ _ _ _ _ (told-yes refl (c .before .before .before .before .before .if1 .left)) (c .before .before .before .if2 .left) (told-no (c .before .before .toggles-right .ensures) (c .before .if3 .taken))
+returns-3 c =
+    let e2 = c .before .before .before in
+    let e1 = e2 .before .before in
+    c .refuse3 .ensures ∙ broken-10 _ _ _ _ _ (told-yes refl (e1 .if1 .left)) (e2 .if2 .left)
+    (told-no (c .before .before .toggles-right .ensures) (c .before .if3 .taken))
 
 mask-right-requires : tie.Need-mask-right-requires
 mask-right-requires c κs = search needs
@@ -35,7 +39,13 @@ refuse-requires-4 : tie.Need-refuse-requires-4
 refuse-requires-4 c κs = search needs
 
 returns-4 : tie.Need-returns-4
-returns-4 c = c .refuse4 .ensures ∙ broken-11 _ _ _ _ _ (told-yes refl (c .before .before .before .before .before .before .before .if1 .left)) (c .before .before .before .before .before .if2 .left) (told-yes (c .before .before .before .before .toggles-right .ensures) (c .before .before .before .if3 .left)) (told-no (c .before .before .mask-right .ensures) (c .before .if4 .taken))
+returns-4 c =
+    let e3 = c .before .before .before in
+    let e2 = e3 .before .before in
+    let e1 = e2 .before .before in
+    c .refuse4 .ensures ∙ broken-11 _ _ _ _ _ (told-yes refl (e1 .if1 .left)) (e2 .if2 .left)
+    (told-yes (e3 .before .toggles-right .ensures) (e3 .if3 .left))
+    (told-no (c .before .before .mask-right .ensures) (c .before .if4 .taken))
 
 counts-right-requires : tie.Need-counts-right-requires
 counts-right-requires c κs = search needs
@@ -44,7 +54,14 @@ refuse-requires-5 : tie.Need-refuse-requires-5
 refuse-requires-5 c κs = search needs
 
 returns-5 : tie.Need-returns-5
-returns-5 c = c .refuse5 .ensures ∙ broken-12 _ _ _ _ _ (told-yes refl (c .before .before .before .before .before .before .before .before .before .if1 .left)) (c .before .before .before .before .before .before .before .if2 .left) (told-yes (c .before .before .before .before .before .before .toggles-right .ensures) (c .before .before .before .before .before .if3 .left)) (told-yes (c .before .before .before .before .mask-right .ensures) (c .before .before .before .if4 .left)) (told-no (c .before .before .counts-right .ensures) (c .before .if5 .taken))
+returns-5 c =
+    let e4 = c .before .before .before in
+    let e3 = e4 .before .before in
+    let e2 = e3 .before .before in
+    let e1 = e2 .before .before in
+    c .refuse5 .ensures ∙ broken-12 _ _ _ _ _ (told-yes refl (e1 .if1 .left)) (e2 .if2 .left)
+    (told-yes (e3 .before .toggles-right .ensures) (e3 .if3 .left)) (told-yes (e4 .before .mask-right .ensures) (e4 .if4 .left))
+    (told-no (c .before .before .counts-right .ensures) (c .before .if5 .taken))
 
 ends-right-requires : tie.Need-ends-right-requires
 ends-right-requires c κs = search needs
@@ -53,13 +70,31 @@ refuse-requires-6 : tie.Need-refuse-requires-6
 refuse-requires-6 c κs = search needs
 
 returns-6 : tie.Need-returns-6
-returns-6 c = c .refuse6 .ensures ∙ broken-13 _ _ _ _ _ (told-yes refl (c .before .before .before .before .before .before .before .before .before .before .before .if1 .left)) (c .before .before .before .before .before .before .before .before .before .if2 .left) (told-yes (c .before .before .before .before .before .before .before .before .toggles-right .ensures) (c .before .before .before .before .before .before .before .if3 .left)) (told-yes (c .before .before .before .before .before .before .mask-right .ensures) (c .before .before .before .before .before .if4 .left)) (told-yes (c .before .before .before .before .counts-right .ensures) (c .before .before .before .if5 .left)) (told-no (c .before .before .ends-right .ensures) (c .before .if6 .taken))
+returns-6 c =
+    let e5 = c .before .before .before in
+    let e4 = e5 .before .before in
+    let e3 = e4 .before .before in
+    let e2 = e3 .before .before in
+    let e1 = e2 .before .before in
+    c .refuse6 .ensures ∙ broken-13 _ _ _ _ _ (told-yes refl (e1 .if1 .left)) (e2 .if2 .left)
+    (told-yes (e3 .before .toggles-right .ensures) (e3 .if3 .left)) (told-yes (e4 .before .mask-right .ensures) (e4 .if4 .left))
+    (told-yes (e5 .before .counts-right .ensures) (e5 .if5 .left))
+    (told-no (c .before .before .ends-right .ensures) (c .before .if6 .taken))
 
 accept-requires : tie.Need-accept-requires
 accept-requires c κs = search needs
 
 returns-7 : tie.Need-returns-7
-returns-7 c = c .accept .ensures ∙ region-fine _ _ _ _ _ (told-yes refl (c .before .before .before .before .before .before .before .before .before .before .before .if1 .left)) (c .before .before .before .before .before .before .before .before .before .if2 .left) (told-yes (c .before .before .before .before .before .before .before .before .toggles-right .ensures) (c .before .before .before .before .before .before .before .if3 .left)) (told-yes (c .before .before .before .before .before .before .mask-right .ensures) (c .before .before .before .before .before .if4 .left)) (told-yes (c .before .before .before .before .counts-right .ensures) (c .before .before .before .if5 .left)) (told-yes (c .before .before .ends-right .ensures) (c .before .if6 .left))
+returns-7 c =
+    let e6 = c .before in
+    let e5 = e6 .before .before in
+    let e4 = e5 .before .before in
+    let e3 = e4 .before .before in
+    let e2 = e3 .before .before in
+    let e1 = e2 .before .before in
+    c .accept .ensures ∙ region-fine _ _ _ _ _ (told-yes refl (e1 .if1 .left)) (e2 .if2 .left)
+    (told-yes (e3 .before .toggles-right .ensures) (e3 .if3 .left)) (told-yes (e4 .before .mask-right .ensures) (e4 .if4 .left))
+    (told-yes (e5 .before .counts-right .ensures) (e5 .if5 .left)) (told-yes (e6 .before .ends-right .ensures) (e6 .if6 .left))
 
 pub run-verdict-spec : {M : Type 1} → statement M
 run-verdict-spec =

@@ -17,7 +17,10 @@ returns c = let e = ap (λ (r : Region). r .first) (c .before .before .before .r
 
 returns-2 : tie.Need-returns-2
 unfolding startsRight
-returns-2 c = let b = c .before .before .before .before .before in let e = ap (λ (r : Region). r .first) (b .region-at .ensures) in rw (lt-ltb _ _ (rw e at (c .before .before .if1 .left)), eq-eqb _ _ (c .before .if2 .taken), e)
+returns-2 c =
+    let b = c .before .before .before .before .before in
+    let e = ap (λ (r : Region). r .first) (b .region-at .ensures) in
+    rw (lt-ltb _ _ (rw e at (c .before .before .if1 .left)), eq-eqb _ _ (c .before .if2 .taken), e)
 
 sub-region-at : tie.Need-sub-region-at
 sub-region-at c = search needs

@@ -14,25 +14,33 @@ returns c = refused-first _ _ _ (c .before .before .check .ensures) (c .if1 .tak
 script-length-requires : tie.Need-script-length-requires
 script-length-requires c κs = search needs
 
+refuse-requires : tie.Need-refuse-requires
+refuse-requires c κs = search needs
+
 returns-2 : tie.Need-returns-2
 returns-2 c =
-    let n = c .before in
+    let n = c .before .before in
     let i = n .before in
-    no-room _ _ _ (i .before .before .check .ensures) (i .if1 .left) _ (n .script-length .ensures .0) (c .if2 .taken)
+    rw (c .refuse .ensures)
+    (no-room _ _ _ (i .before .before .check .ensures) (i .if1 .left) _ (n .script-length .ensures .0) (c .before .if2 .taken))
 
 put-script-requires : tie.Need-put-script-requires
 put-script-requires c κs = search needs
+
+accept-requires : tie.Need-accept-requires
+accept-requires c κs = search needs
 
 same-length : tie.Need-same-length
 same-length c = search needs
 
 returns-3 : tie.Need-returns-3
 returns-3 c =
-    let w = c .before .before in
+    let w = c .before .before .before in
     let e = w .before .before in
     let n = e .before in
     let i = n .before in
-    room _ _ _ (i .before .before .check .ensures) (i .if1 .left) _ (n .script-length .ensures .0) (e .if2 .left) _ (w .put-script .ensures)
+    rw (c .accept .ensures)
+    (room _ _ _ (i .before .before .check .ensures) (i .if1 .left) _ (n .script-length .ensures .0) (e .if2 .left) _ (w .put-script .ensures))
 
 pub write-spec : {M : Type 1} → statement M
 write-spec =
@@ -41,7 +49,9 @@ write-spec =
     check-requires
     returns
     script-length-requires
+    refuse-requires
     returns-2
     put-script-requires
+    accept-requires
     same-length
     returns-3)

@@ -1,8 +1,8 @@
 -- Each arm has its number, the last one that is neither 0 nor 1.
 -- Assumes nothing.
 use borrow.Author.Tests.{ne-eqb}
-use Rattle.profile.proofs.records.mode_of.Statement.{statement}
-use Rattle.profile.proofs.records.mode_of.Tie as tie
+use Rattle.profile.proofs.values.mode_of.Statement.{statement}
+use Rattle.profile.proofs.values.mode_of.Tie as tie
 
 returns : tie.Need-returns
 returns c = rw (c .match .keys1)
