@@ -1,12 +1,12 @@
--- The record at an offset: which answer its tests give, what is known of one that is found whole, and what a step over it leaves.
+-- The record at an offset: which answer its tests give, and what a step over it leaves.
 -- Assumes nothing.
 use mathlib.Core.Path.{_≡_, refl, sym, _∙_}
-use mathlib.Core.Bool.{true, false, cond}
+use mathlib.Core.Bool.{true, false}
 use mathlib.Core.List.{List}
 use Prim.Native.Nat.{ℕ, suc, _+_, _-_, _≤_, _<_}
 use native.Mathlib.Nat.{add-zero}
 use native.Mathlib.Omega.{arith}
-use borrow.Author.Tests.{ltb-false, lt-ltb, le-ltb, eqb-true, eqb-false}
+use borrow.Author.Tests.{lt-ltb, le-ltb, eqb-true, eqb-false}
 use lib.Dec.{ltb, eqb}
 use lib.ListN.{length, getD, take, drop, length-take, length-drop, drop-of-length-le}
 use lib.Seq.{getD-drop, drop-drop, drop-cons}
@@ -19,7 +19,7 @@ use Rattle.profile.specs.declared.records.BodyAnswer.{BodyAnswer}
 use Rattle.profile.specs.declared.records.Found.{Found}
 use Rattle.profile.specs.declared.records.RecordAnswer.{RecordAnswer}
 use Rattle.profile.proofs.Laws.{by-cases}
-use Rattle.profile.proofs.Takes.{step-next, records-next, records-stop, records-done}
+use Rattle.profile.proofs.Takes.{Whole, known-found, step-next, records-next, records-stop, records-done}
 
 -- ---- which answer
 
@@ -65,50 +65,6 @@ module _ (s : List ℕ) (at : ℕ) where
         unfolding foundFront
         body-found h =
             rw (header, kind-rest, size-rest, e, f, le-ltb (length (drop at s)) (4 + size) (omega (arith, length-drop at s)))
-
--- ---- what is known of the answer
-
--- a record that was found whole at the front of r
-pub record Whole (at : ℕ) (r : List ℕ) (f : Found) : Type 0 where
-  pub kind : f .kind ≡ numberAt r 2
-  pub start : f .start ≡ at + 4
-  pub end : f .end ≡ at + (4 + numberAt r 0)
-  pub right : allowed (numberAt r 2) (numberAt r 0) ≡ true
-  pub long : 4 + numberAt r 0 ≤ length r
-  pub values : (p : Profile) → step r p
-      ≡ cond (fits (numberAt r 2) (bodyOf r)) (next (numberAt r 0) (put (numberAt r 2) (bodyOf r) p)) (stop 5)
-
--- found whole, or refused for the step too
-abbrev Known : ℕ → List ℕ → Found → Type 0
-Known at r f = (f .number ≡ 0 → Whole at r f) × ((f .number ≡ 0 → ⊥) → (p : Profile) → step r p ≡ stop (f .number))
-
-known-found : (at : ℕ) (r : List ℕ) → Known at r (foundFront at r)
-unfolding foundFront step
-known-found at r =
-    by-cases (ltb (length r) 4)
-    (λ a. rw a (λ z. absurd (omega arith), λ n p. refl))
-    (λ a.
-    by-cases (known (numberAt r 2))
-    (λ b.
-    by-cases (allowed (numberAt r 2) (numberAt r 0))
-    (λ c.
-    by-cases (ltb (length r) (4 + numberAt r 0))
-    (λ d. rw (a, b, c, d) (λ z. absurd (omega arith), λ n p. refl))
-    (λ d.
-    rw (a, b, c, d) (
-      λ z.
-          record {
-            kind = refl;
-            start = refl;
-            end = refl;
-            right = c;
-            long = ltb-false (length r) (4 + numberAt r 0) d;
-            values = λ p. rw (a, b, c, d);
-          },
-      λ n p. absurd (n refl),
-    )))
-    (λ c. rw (a, b, c) (λ z. absurd (omega arith), λ n p. refl)))
-    (λ b. rw (a, b) (λ z. absurd (omega arith), λ n p. refl)))
 
 -- ---- one record put into a profile
 

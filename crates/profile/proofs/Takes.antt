@@ -1,4 +1,4 @@
--- Reading a script piece by piece: a piece takes the profile from one to the next, whatever follows it.
+-- One record by its tests, and reading a script piece by piece: a piece takes the profile from one to the next, whatever follows it.
 -- A record that is read with anything behind it is such a piece, and pieces in a row are one.
 -- Assumes nothing.
 use mathlib.Core.Path.{_≡_, refl, sym, ap, _∙_}
@@ -7,18 +7,64 @@ use mathlib.Core.List.{List, [], _∷_, _++_, append-assoc, append-nil}
 use Prim.Native.Nat.{ℕ, zero, suc, _+_, _≤_, _<_}
 use native.Mathlib.Nat.{add-zero}
 use native.Mathlib.Omega.{arith}
-use borrow.Author.Tests.{ltb-false}
-use lib.Dec.{ltb}
+use borrow.Author.Tests.{ltb-false, eqb-true, eqb-false}
+use lib.Dec.{ltb, eqb}
 use lib.ListN.{length, take, drop, length-append, take-append-drop}
 use lib.Seq.{length-take-le}
 use Rattle.profile.specs.Lists.{chunks}
 use Rattle.profile.specs.Bytes.{numberAt}
 use Rattle.profile.specs.Values.{refused, accepted, readAnswer}
 use Rattle.profile.specs.Script.{known, allowed, fits, put, bodyOf, stop, next, step, records}
+use Rattle.profile.specs.Reading.{foundFront}
 use Rattle.profile.specs.declared.Profile.{Profile}
+use Rattle.profile.specs.declared.records.Found.{Found}
 use Rattle.profile.proofs.Laws.{by-cases}
 
--- ---- one record
+-- ---- one record by its tests, as the step and the search for it make them
+
+-- a record that was found whole at the front of r
+pub record Whole (at : ℕ) (r : List ℕ) (f : Found) : Type 0 where
+  pub kind : f .kind ≡ numberAt r 2
+  pub start : f .start ≡ at + 4
+  pub end : f .end ≡ at + (4 + numberAt r 0)
+  pub known : known (numberAt r 2) ≡ true
+  pub right : allowed (numberAt r 2) (numberAt r 0) ≡ true
+  pub long : 4 + numberAt r 0 ≤ length r
+  pub values : (p : Profile) → step r p
+      ≡ cond (fits (numberAt r 2) (bodyOf r)) (next (numberAt r 0) (put (numberAt r 2) (bodyOf r) p)) (stop 5)
+
+-- found whole, or refused for the step too
+abbrev pub Known : ℕ → List ℕ → Found → Type 0
+Known at r f = (f .number ≡ 0 → Whole at r f) × ((f .number ≡ 0 → ⊥) → (p : Profile) → step r p ≡ stop (f .number))
+
+pub known-found : (at : ℕ) (r : List ℕ) → Known at r (foundFront at r)
+unfolding foundFront step
+known-found at r =
+    by-cases (ltb (length r) 4)
+    (λ a. rw a (λ z. absurd (omega arith), λ n p. refl))
+    (λ a.
+    by-cases (known (numberAt r 2))
+    (λ b.
+    by-cases (allowed (numberAt r 2) (numberAt r 0))
+    (λ c.
+    by-cases (ltb (length r) (4 + numberAt r 0))
+    (λ d. rw (a, b, c, d) (λ z. absurd (omega arith), λ n p. refl))
+    (λ d.
+    rw (a, b, c, d) (
+      λ z.
+          record {
+            kind = refl;
+            start = refl;
+            end = refl;
+            known = b;
+            right = c;
+            long = ltb-false (length r) (4 + numberAt r 0) d;
+            values = λ p. rw (a, b, c, d);
+          },
+      λ n p. absurd (n refl),
+    )))
+    (λ c. rw (a, b, c) (λ z. absurd (omega arith), λ n p. refl)))
+    (λ b. rw (a, b) (λ z. absurd (omega arith), λ n p. refl)))
 
 -- what is known of a record that was taken
 pub record Taken (s : List ℕ) (p : Profile) (len : ℕ) (q : Profile) : Type 0 where
@@ -33,32 +79,18 @@ stop-next : {A : Type 0} (n len : ℕ) (q : Profile) → stop n ≡ next len q �
 stop-next n len q e = let z : _≡_ {A = ℕ} 0 1 = cc in absurd (omega arith)
 
 pub step-taken : (s : List ℕ) (p : Profile) (len : ℕ) (q : Profile) → step s p ≡ next len q → Taken s p len q
-unfolding step
 step-taken s p len q e =
-    by-cases (ltb (length s) 4)
-    (λ a. stop-next 2 len q (rw a at e))
-    (λ a.
-    by-cases (known (numberAt s 2))
-    (λ b.
-    by-cases (allowed (numberAt s 2) (numberAt s 0))
-    (λ c.
-    by-cases (ltb (length s) (4 + numberAt s 0))
-    (λ d. stop-next 2 len q (rw (a, b, c, d) at e))
-    (λ d.
+    let found = foundFront 0 s in
+    by-cases (eqb (found .number) 0)
+    (λ z.
+    let w = known-found 0 s .0 (eqb-true (found .number) 0 z) in
+    let v = sym (w .values p) ∙ e in
     by-cases (fits (numberAt s 2) (bodyOf s))
     (λ f.
-    let n : next (numberAt s 0) (put (numberAt s 2) (bodyOf s) p) ≡ next len q = rw (a, b, c, d, f) at e in
-    record {
-      size = cc;
-      kind = b;
-      right = c;
-      whole = ltb-false (length s) (4 + numberAt s 0) d;
-      values = f;
-      gives = cc;
-    })
-    (λ f. stop-next 5 len q (rw (a, b, c, d, f) at e))))
-    (λ c. stop-next 4 len q (rw (a, b, c) at e)))
-    (λ b. stop-next 3 len q (rw (a, b) at e)))
+    let n : next (numberAt s 0) (put (numberAt s 2) (bodyOf s) p) ≡ next len q = rw f at v in
+    record { size = cc; kind = w .known; right = w .right; whole = w .long; values = f; gives = cc })
+    (λ f. stop-next 5 len q (rw f at v)))
+    (λ z. stop-next (found .number) len q (sym (known-found 0 s .1 (eqb-false (found .number) 0 z) p) ∙ e))
 
 pub step-next : (s : List ℕ) (p : Profile) (len : ℕ) (q : Profile) → step s p ≡ next len q → 4 + len ≤ length s
 step-next s p len q e = let t = step-taken s p len q e in omega arith
