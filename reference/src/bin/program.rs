@@ -1,0 +1,33 @@
+//! "The program reads a script from standard input, has room for 4,096 steps,
+//! and prints `steps S pixels P`, then each step as decimal count, space, four
+//! upper-case hex digits; or `refused N P` alone; LF ends each line."
+
+use reference::list::{compile, Compiled};
+use reference::refusal::Refusal;
+use reference::script::read;
+use std::io::{Read, Write};
+
+const ROOM: usize = 4096;
+
+fn main() -> std::io::Result<()> {
+    let mut script = Vec::new();
+    std::io::stdin().read_to_end(&mut script)?;
+    std::io::stdout().write_all(answer(&script).as_bytes())
+}
+
+fn answer(script: &[u8]) -> String {
+    let mut counts = [0; ROOM];
+    let mut words = [0; ROOM];
+    match read(script).and_then(|profile| compile(&profile, &mut counts, &mut words)) {
+        Ok(compiled) => steps(compiled, &counts, &words),
+        Err(Refusal { number, place }) => format!("refused {number} {place}\n"),
+    }
+}
+
+fn steps(compiled: Compiled, counts: &[u32], words: &[u16]) -> String {
+    let mut out = format!("steps {} pixels {}\n", compiled.steps, compiled.pixels);
+    for i in 0..compiled.steps as usize {
+        out += &format!("{} {:04X}\n", counts[i], words[i]);
+    }
+    out
+}

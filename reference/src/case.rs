@@ -1,0 +1,256 @@
+//! The batch format of tests/cases/FORMAT.md: cases as bytes, answers as text.
+
+use crate::list::{compile, play, Compiled};
+use crate::profile::{Profile, NUMBERS};
+use crate::refusal::Refusal;
+use crate::rules::check;
+use crate::script::{read, write};
+use crate::word::{level, locate};
+use std::fmt::{Display, Write as _};
+
+/// "payload of at most 65,536 bytes"
+pub const PAYLOAD_MOST: usize = 65_536;
+pub const SCRIPT_MOST_IN_A_CASE: usize = 40_000;
+pub const ENTRIES_MOST: usize = 4096;
+
+/// One question to one entry point.
+#[derive(Clone, PartialEq, Eq, Debug)]
+pub enum Case {
+    Read { script: Vec<u8> },
+    Check { profile: Profile },
+    Write { profile: Profile, slice: Vec<u8> },
+    Level { profile: Profile, line: u64, pixel: u64 },
+    Locate { profile: Profile, n: u64 },
+    Compile { profile: Profile, counts: Vec<u32>, words: Vec<u16> },
+    Play { counts: Vec<u32>, words: Vec<u16>, used: u64, position: u64 },
+}
+
+// ---------------------------------------------------------------------------
+// Cases as bytes
+
+impl Case {
+    pub fn kind(&self) -> char {
+        match self {
+            Case::Read { .. } => 'R',
+            Case::Check { .. } => 'C',
+            Case::Write { .. } => 'W',
+            Case::Level { .. } => 'L',
+            Case::Locate { .. } => 'N',
+            Case::Compile { .. } => 'K',
+            Case::Play { .. } => 'P',
+        }
+    }
+
+    /// Kind byte, payload length as u32, payload.
+    pub fn encode(&self) -> Vec<u8> {
+        let payload = self.payload();
+        assert!(payload.len() <= PAYLOAD_MOST, "a payload over its limit");
+        let mut out = vec![self.kind() as u8];
+        out.extend((payload.len() as u32).to_le_bytes());
+        out.extend(payload);
+        out
+    }
+
+    fn payload(&self) -> Vec<u8> {
+        let mut out = Vec::new();
+        match self {
+            Case::Read { script } => {
+                assert!(script.len() <= SCRIPT_MOST_IN_A_CASE, "a script over its limit");
+                out.extend(script);
+            }
+            Case::Check { profile } => put_profile(&mut out, profile),
+            Case::Write { profile, slice } => {
+                put_profile(&mut out, profile);
+                out.extend(slice);
+            }
+            Case::Level { profile, line, pixel } => {
+                put_profile(&mut out, profile);
+                out.extend(line.to_le_bytes());
+                out.extend(pixel.to_le_bytes());
+            }
+            Case::Locate { profile, n } => {
+                put_profile(&mut out, profile);
+                out.extend(n.to_le_bytes());
+            }
+            Case::Compile { profile, counts, words } => {
+                put_profile(&mut out, profile);
+                put_lengths(&mut out, counts, words);
+                put_lists(&mut out, counts, words);
+            }
+            Case::Play { counts, words, used, position } => {
+                put_lengths(&mut out, counts, words);
+                out.extend(used.to_le_bytes());
+                out.extend(position.to_le_bytes());
+                put_lists(&mut out, counts, words);
+            }
+        }
+        out
+    }
+}
+
+fn put_profile(out: &mut Vec<u8>, profile: &Profile) {
+    for n in profile.numbers() {
+        out.extend(n.to_le_bytes());
+    }
+}
+
+fn put_lengths(out: &mut Vec<u8>, counts: &[u32], words: &[u16]) {
+    assert!(counts.len() <= ENTRIES_MOST && words.len() <= ENTRIES_MOST, "a list over its limit");
+    out.extend((counts.len() as u32).to_le_bytes());
+    out.extend((words.len() as u32).to_le_bytes());
+}
+
+fn put_lists(out: &mut Vec<u8>, counts: &[u32], words: &[u16]) {
+    for c in counts {
+        out.extend(c.to_le_bytes());
+    }
+    for w in words {
+        out.extend(w.to_le_bytes());
+    }
+}
+
+/// The cases of a batch; nothing where the batch is at fault.
+pub fn decode_batch(batch: &[u8]) -> Option<Vec<Case>> {
+    let mut rest = Bytes { left: batch };
+    let mut cases = Vec::new();
+    while !rest.left.is_empty() {
+        let kind = rest.take(1)?[0];
+        let length = rest.u32()? as usize;
+        cases.push(decode(kind, rest.take(length)?)?);
+    }
+    Some(cases)
+}
+
+/// A payload has exactly the bytes its kind asks for.
+fn decode(kind: u8, payload: &[u8]) -> Option<Case> {
+    let mut rest = Bytes { left: payload };
+    let case = match kind {
+        b'R' => Case::Read { script: rest.all() },
+        b'C' => Case::Check { profile: rest.profile()? },
+        b'W' => Case::Write { profile: rest.profile()?, slice: rest.all() },
+        b'L' => Case::Level { profile: rest.profile()?, line: rest.u64()?, pixel: rest.u64()? },
+        b'N' => Case::Locate { profile: rest.profile()?, n: rest.u64()? },
+        b'K' => {
+            let profile = rest.profile()?;
+            let (counts, words) = (rest.u32()?, rest.u32()?);
+            Case::Compile { profile, counts: rest.u32s(counts)?, words: rest.u16s(words)? }
+        }
+        b'P' => {
+            let (counts, words) = (rest.u32()?, rest.u32()?);
+            let (used, position) = (rest.u64()?, rest.u64()?);
+            Case::Play { counts: rest.u32s(counts)?, words: rest.u16s(words)?, used, position }
+        }
+        _ => return None,
+    };
+    if rest.left.is_empty() {
+        Some(case)
+    } else {
+        None
+    }
+}
+
+/// Takes little-endian numbers from the front of a slice.
+struct Bytes<'a> {
+    left: &'a [u8],
+}
+
+impl<'a> Bytes<'a> {
+    fn take(&mut self, n: usize) -> Option<&'a [u8]> {
+        let taken = self.left.get(..n)?;
+        self.left = &self.left[n..];
+        Some(taken)
+    }
+
+    fn all(&mut self) -> Vec<u8> {
+        std::mem::take(&mut self.left).to_vec()
+    }
+
+    fn u16(&mut self) -> Option<u16> {
+        Some(u16::from_le_bytes(self.take(2)?.try_into().ok()?))
+    }
+
+    fn u32(&mut self) -> Option<u32> {
+        Some(u32::from_le_bytes(self.take(4)?.try_into().ok()?))
+    }
+
+    fn u64(&mut self) -> Option<u64> {
+        Some(u64::from_le_bytes(self.take(8)?.try_into().ok()?))
+    }
+
+    fn u16s(&mut self, n: u32) -> Option<Vec<u16>> {
+        (0..n).map(|_| self.u16()).collect()
+    }
+
+    fn u32s(&mut self, n: u32) -> Option<Vec<u32>> {
+        (0..n).map(|_| self.u32()).collect()
+    }
+
+    fn profile(&mut self) -> Option<Profile> {
+        Profile::from_numbers(&self.u16s(NUMBERS as u32)?)
+    }
+}
+
+// ---------------------------------------------------------------------------
+// Answers as text
+
+/// The lines of case k. At a refusal every part but number and place is 0 or
+/// the empty profile.
+pub fn answer(k: usize, case: &Case) -> String {
+    let mut out = format!("CASE {k} {}\n", case.kind());
+    match case {
+        Case::Read { script } => {
+            let read = read(script);
+            put_line(&mut out, head(&read));
+            put_line(&mut out, read.unwrap_or(Profile::empty()).numbers());
+        }
+        Case::Check { profile } => put_line(&mut out, head(&check(profile))),
+        Case::Write { profile, slice } => {
+            let mut slice = slice.clone();
+            let written = write(profile, &mut slice);
+            put_line(&mut out, head(&written).into_iter().chain([written.unwrap_or(0) as u64]));
+            for byte in &slice {
+                write!(out, "{byte:02X}").unwrap();
+            }
+            out.push('\n');
+        }
+        Case::Level { profile, line, pixel } => {
+            let word = level(profile, *line, *pixel);
+            put_line(&mut out, head(&word).into_iter().chain([word.unwrap_or(0) as u64]));
+        }
+        Case::Locate { profile, n } => {
+            let place = locate(profile, *n);
+            let (line, pixel) = place.unwrap_or((0, 0));
+            put_line(&mut out, head(&place).into_iter().chain([line, pixel]));
+        }
+        Case::Compile { profile, counts, words } => {
+            let (mut counts, mut words) = (counts.clone(), words.clone());
+            let compiled = compile(profile, &mut counts, &mut words);
+            let Compiled { steps, pixels } = compiled.unwrap_or(Compiled { steps: 0, pixels: 0 });
+            put_line(&mut out, head(&compiled).into_iter().chain([steps, pixels]));
+            put_line(&mut out, counts);
+            put_line(&mut out, words);
+        }
+        Case::Play { counts, words, used, position } => {
+            let word = play(counts, words, *used, *position);
+            put_line(&mut out, head(&word).into_iter().chain([word.unwrap_or(0) as u64]));
+        }
+    }
+    out
+}
+
+/// Number and place: 0 and 0 where accepted.
+fn head<T>(result: &Result<T, Refusal>) -> [u64; 2] {
+    match result {
+        Ok(_) => [0, 0],
+        Err(Refusal { number, place }) => [*number as u64, *place],
+    }
+}
+
+/// Decimal numbers separated by single spaces, and an LF.
+fn put_line<T: Display>(out: &mut String, numbers: impl IntoIterator<Item = T>) {
+    for (i, n) in numbers.into_iter().enumerate() {
+        let before = if i == 0 { "" } else { " " };
+        write!(out, "{before}{n}").unwrap();
+    }
+    out.push('\n');
+}

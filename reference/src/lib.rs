@@ -1,0 +1,29 @@
+//! A second implementation of document 01 ("What will be built, and the
+//! rules"), written from the document alone. It is there to be compared with:
+//! clear before fast, and total: every entry point has an answer for any
+//! bytes, any numbers in a profile handed in, any line, pixel and position.
+//!
+//! - `profile`: the profile and its parts, and their raw order
+//! - `refusal`: the numbers of refusal
+//! - `ranges`:  refusal 5 for items of a profile
+//! - `rules`:   refusals 6 to 17, and the check
+//! - `script`:  reading and writing
+//! - `word`:    the word at a line and pixel, and the place of a field pixel
+//! - `list`:    compiling and playing a hold list
+//! - `case`:    the batch format and the printed answers
+//! - `make`, `stored`, `random`: the batches
+
+pub mod case;
+pub mod list;
+pub mod make;
+pub mod profile;
+pub mod random;
+pub mod ranges;
+pub mod refusal;
+pub mod rules;
+pub mod script;
+pub mod stored;
+pub mod word;
+
+#[cfg(test)]
+mod tests;

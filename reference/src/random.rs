@@ -1,0 +1,860 @@
+//! Random batches. Valid profiles are built so that the rules hold, then
+//! sometimes one number is moved, bytes are damaged, or a script is cut.
+
+use crate::case::{Case, ENTRIES_MOST, SCRIPT_MOST_IN_A_CASE};
+use crate::list::steps_needed;
+use crate::make::*;
+use crate::profile::*;
+use crate::ranges::check_ranges;
+use crate::rules::{check, line_length, region_of_line, region_size, repetitions};
+use crate::script::{records, SCRIPT_MOST};
+
+/// A batch of `count` cases; the same seed gives the same batch.
+pub fn cases(seed: u64, count: u64) -> Vec<Case> {
+    let mut rng = Rng { state: seed };
+    (0..count).map(|_| case(&mut rng)).collect()
+}
+
+fn case(rng: &mut Rng) -> Case {
+    match rng.below(100) {
+        0..=24 => Case::Read { script: script(rng) },
+        25..=39 => Case::Check { profile: any_profile(rng) },
+        40..=46 => {
+            let profile = any_profile(rng);
+            Case::Write { profile, slice: slice(rng, &profile) }
+        }
+        47..=60 => level_case(rng),
+        61..=68 => locate_case(rng),
+        69..=89 => compile_case(rng),
+        _ => play_case(rng),
+    }
+}
+
+// ---------------------------------------------------------------------------
+// The generator: splitmix64
+
+pub struct Rng {
+    state: u64,
+}
+
+impl Rng {
+    fn next(&mut self) -> u64 {
+        self.state = self.state.wrapping_add(0x9E37_79B9_7F4A_7C15);
+        let z = self.state;
+        let z = (z ^ (z >> 30)).wrapping_mul(0xBF58_476D_1CE4_E5B9);
+        let z = (z ^ (z >> 27)).wrapping_mul(0x94D0_49BB_1331_11EB);
+        z ^ (z >> 31)
+    }
+
+    fn below(&mut self, n: u64) -> u64 {
+        self.next() % n
+    }
+
+    /// From least to most, both included.
+    fn between(&mut self, least: u64, most: u64) -> u64 {
+        least + self.below(most - least + 1)
+    }
+
+    /// As `between`, but often at an edge.
+    fn edgy(&mut self, least: u64, most: u64) -> u64 {
+        match self.below(8) {
+            0 => least,
+            1 => most,
+            _ => self.between(least, most),
+        }
+    }
+
+    fn percent(&mut self, p: u64) -> bool {
+        self.below(100) < p
+    }
+
+    /// A number of any size; or a small one with a high bit set, which narrower
+    /// arithmetic would take for the small one.
+    fn wide(&mut self, small: u64) -> u64 {
+        if self.percent(50) {
+            self.next() >> self.below(64)
+        } else {
+            small | 1 << self.pick(&[16, 24, 32, 48, 63])
+        }
+    }
+
+    fn pick<T: Copy>(&mut self, from: &[T]) -> T {
+        from[self.below(from.len() as u64) as usize]
+    }
+
+    fn shuffle<T>(&mut self, items: &mut [T]) {
+        for i in (1..items.len()).rev() {
+            items.swap(i, self.below(i as u64 + 1) as usize);
+        }
+    }
+}
+
+// ---------------------------------------------------------------------------
+// Profiles
+
+/// The most lines and the longest lines of a field.
+#[derive(Clone, Copy)]
+struct Size {
+    lines: u64,
+    length: u64,
+}
+
+const TINY: Size = Size { lines: 5, length: 9 };
+const SMALL: Size = Size { lines: 12, length: 30 };
+const MEDIUM: Size = Size { lines: 60, length: 200 };
+const FULL: Size = Size { lines: 4095, length: 4095 };
+
+fn size(rng: &mut Rng) -> Size {
+    match rng.below(20) {
+        0..=5 => TINY,
+        6..=15 => SMALL,
+        16..=18 => MEDIUM,
+        _ => FULL,
+    }
+}
+
+/// Seldom full size: compiling one of those takes long.
+fn size_to_compile(rng: &mut Rng) -> Size {
+    match rng.below(50) {
+        0..=15 => TINY,
+        16..=38 => SMALL,
+        39..=48 => MEDIUM,
+        _ => FULL,
+    }
+}
+
+fn any_profile(rng: &mut Rng) -> Profile {
+    let size = size(rng);
+    profile_of(rng, size)
+}
+
+/// Half of them valid; most others have one number moved or one rule broken.
+fn profile_of(rng: &mut Rng, size: Size) -> Profile {
+    let mut p = valid(rng, size);
+    match rng.below(50) {
+        0..=24 => {}
+        25..=32 => move_number(rng, &mut p, true),
+        33..=40 => break_rules(rng, &mut p, 1),
+        41..=44 => {
+            let count = rng.between(2, 4);
+            break_rules(rng, &mut p, count);
+        }
+        45..=47 => move_number(rng, &mut p, false),
+        48 => {
+            break_rules(rng, &mut p, 2);
+            move_number(rng, &mut p, true);
+        }
+        _ => p = wild(rng, &p),
+    }
+    p
+}
+
+/// A profile that the check accepts.
+fn valid(rng: &mut Rng, size: Size) -> Profile {
+    let mut p = Profile::empty();
+    unused_items(rng, &mut p);
+    layout(rng, &mut p, size);
+    for i in 0..p.field.count as usize {
+        fill_region(rng, &mut p, i);
+    }
+    share(rng, &mut p);
+    if rng.percent(50) {
+        second_pattern(rng, &mut p);
+    }
+    gates(rng, &mut p);
+    subck_item(rng, &mut p);
+    shutter_items(rng, &mut p);
+    p
+}
+
+/// Patterns and sequences with any numbers in range; those in use are set later.
+fn unused_items(rng: &mut Rng, p: &mut Profile) {
+    for k in 0..PATTERNS {
+        if rng.percent(40) {
+            continue;
+        }
+        for i in 0..24 {
+            p.registers[24 * k + i] = if i == 0 { rng.below(64) } else { rng.below(4096) } as u16;
+        }
+    }
+    for s in &mut p.sequences {
+        if rng.percent(30) {
+            *s = Sequence {
+                present: true,
+                pattern: rng.below(10) as u16,
+                length: rng.between(1, 4095) as u16,
+                start: rng.below(4096) as u16,
+                odd: rng.below(4096) as u16,
+                even: rng.below(4096) as u16,
+                mask: rng.below(4) as u16,
+            };
+        }
+    }
+}
+
+/// Lines, regions and their modes, line lengths; a sequence and a pattern of
+/// its own for each region.
+fn layout(rng: &mut Rng, p: &mut Profile, size: Size) {
+    let lines = rng.edgy(1, size.lines);
+    let count = rng.edgy(1, lines.min(7));
+    let mut firsts = vec![0];
+    while (firsts.len() as u64) < count {
+        let first = rng.below(lines);
+        if !firsts.contains(&first) {
+            firsts.push(first);
+        }
+    }
+    firsts.sort();
+    let mut sequences: Vec<u16> = (0..10).collect();
+    let mut patterns: Vec<u16> = (0..10).collect();
+    rng.shuffle(&mut sequences);
+    rng.shuffle(&mut patterns);
+    let mut regions = Vec::new();
+    for i in 0..count as usize {
+        let mode = rng.pick(&[Mode::Plain, Mode::Plain, Mode::Sweep, Mode::Multiplier]);
+        let length = rng.edgy(1, size.length) as u16;
+        p.sequences[sequences[i] as usize] = sequence(patterns[i], length, 0, 0, 0, 0);
+        regions.push(region(firsts[i] as u16, sequences[i], mode));
+    }
+    let last = rng.edgy(1, size.length) as u16;
+    let gate_line = rng.edgy(0, lines - 1) as u16;
+    p.field = field(lines as u16, last, gate_line, NO_SECOND, &regions);
+}
+
+fn fill_region(rng: &mut Rng, p: &mut Profile, i: usize) {
+    let size = region_size(p, i);
+    match p.field.regions[i].mode {
+        Mode::Plain => fill_plain(rng, p, i),
+        Mode::Sweep => fill_sweep(rng, p, i, size),
+        Mode::Multiplier => fill_multiplier(rng, p, i, size),
+    }
+}
+
+/// The sequence of region i, to be changed.
+fn sequence_mut(p: &mut Profile, i: usize) -> &mut Sequence {
+    let number = p.field.regions[i].sequence as usize;
+    &mut p.sequences[number]
+}
+
+fn fill_plain(rng: &mut Rng, p: &mut Profile, i: usize) {
+    let s = sequence_mut(p, i);
+    let line = s.length as u64;
+    let (pattern, length) = (s.pattern, rng.edgy(1, (line + 3).min(4095)).min(rng.edgy(1, 4095)));
+    s.start = if rng.percent(10) { rng.below(4096) } else { rng.below(line.div_ceil(2) + 1) } as u16;
+    let most = if rng.percent(10) { 4095 } else { line / length + 2 };
+    s.odd = rng.edgy(0, most.min(4095)) as u16;
+    s.even = rng.edgy(0, most.min(4095)) as u16;
+    s.mask = rng.pick(&[0, 0, 1, 2, 3]);
+    let mask = s.mask;
+    let toggles = toggles_below(rng, length);
+    let pairs = pairs(rng, mask, line);
+    let levels = rng.below(64) as u16;
+    set_pattern(p, pattern as usize, levels, length as u16, &toggles, pairs);
+}
+
+fn fill_sweep(rng: &mut Rng, p: &mut Profile, i: usize, size: u64) {
+    let s = sequence_mut(p, i);
+    let (start, length) = start_and_length(rng, size);
+    let most = ((size - start) / length).min(4095);
+    let count = if rng.percent(30) { most } else { rng.edgy(0, most) };
+    *s = Sequence { start: start as u16, odd: count as u16, even: count as u16, ..*s };
+    let pattern = s.pattern as usize;
+    let toggles = toggles_below(rng, length);
+    let (levels, pairs) = (rng.below(64) as u16, pairs(rng, 0, size));
+    set_pattern(p, pattern, levels, length as u16, &toggles, pairs);
+}
+
+fn fill_multiplier(rng: &mut Rng, p: &mut Profile, i: usize, size: u64) {
+    let s = sequence_mut(p, i);
+    let (start, length) = start_and_length(rng, size);
+    let highest = ((size - start) / length).min(4094);
+    let toggles = toggles_to(rng, highest);
+    let used = toggles.iter().flatten().copied().filter(|t| *t != 4095);
+    let count = used.max().unwrap_or(0);
+    *s = Sequence { start: start as u16, odd: count, even: count, ..*s };
+    let pattern = s.pattern as usize;
+    let (levels, pairs) = (rng.below(64) as u16, pairs(rng, 0, size));
+    set_pattern(p, pattern, levels, length as u16, &toggles, pairs);
+}
+
+/// A start in the region, and a pattern length that leaves room for a few runs.
+fn start_and_length(rng: &mut Rng, size: u64) -> (u64, u64) {
+    let start = if rng.percent(10) { rng.edgy(0, size.min(4095)) } else { rng.edgy(0, (size / 4).min(4095)) };
+    let longest = (size / rng.between(1, 9)).clamp(1, 4095);
+    (start, rng.edgy(1, longest))
+}
+
+/// Used toggles below the length first and rising, then any at or above it.
+fn toggles_below(rng: &mut Rng, length: u64) -> [[u16; 3]; 6] {
+    let mut toggles = [UNUSED; 6];
+    for three in &mut toggles {
+        let used = rising(rng, length);
+        for i in used.len()..3 {
+            three[i] = if rng.percent(50) { 4095 } else { rng.between(length, 4095) as u16 };
+        }
+        three[..used.len()].copy_from_slice(&used);
+    }
+    toggles
+}
+
+/// Used toggles up to the highest first and rising, then 4095.
+fn toggles_to(rng: &mut Rng, highest: u64) -> [[u16; 3]; 6] {
+    let mut toggles = [UNUSED; 6];
+    for three in &mut toggles {
+        let used = rising(rng, highest + 1);
+        three[..used.len()].copy_from_slice(&used);
+    }
+    toggles
+}
+
+/// At most three numbers below a limit, rising strictly.
+fn rising(rng: &mut Rng, limit: u64) -> Vec<u16> {
+    let mut used: Vec<u16> = (0..rng.below(4)).map(|_| rng.edgy(0, limit - 1) as u16).collect();
+    used.sort();
+    used.dedup();
+    used
+}
+
+/// Freeze and resume pairs that the mask's rule allows near a line's pixels;
+/// those not turned on are any.
+fn pairs(rng: &mut Rng, mask: u16, line: u64) -> [u16; 4] {
+    let most = (line + 2).min(4092);
+    let mut inside: Vec<u16> = (0..4).map(|_| rng.below(most) as u16).collect();
+    inside.sort();
+    // Two numbers may be equal only between the pairs.
+    let mut pairs = [inside[0], inside[1] + 1, inside[2] + 1, inside[3] + 2];
+    for pair in 0..2 {
+        if mask >> pair & 1 == 0 {
+            pairs[2 * pair] = rng.below(4096) as u16;
+            pairs[2 * pair + 1] = rng.below(4096) as u16;
+        }
+    }
+    pairs
+}
+
+/// Lets two regions share a sequence or a pattern where the rules still hold.
+fn share(rng: &mut Rng, p: &mut Profile) {
+    for _ in 0..2 {
+        let i = rng.below(p.field.count as u64) as usize;
+        let j = rng.below(p.field.count as u64) as usize;
+        let shared = with(p, |p| {
+            if rng.percent(50) {
+                p.field.regions[i].sequence = p.field.regions[j].sequence;
+            } else {
+                let pattern = p.sequence_of(j).pattern;
+                sequence_mut(p, i).pattern = pattern;
+            }
+        });
+        if check(&shared).is_ok() {
+            *p = shared;
+        }
+    }
+}
+
+/// A second pattern, where the gate line lies in a plain region of this count
+/// alone; the line's count is lowered to end before it.
+fn second_pattern(rng: &mut Rng, p: &mut Profile) {
+    let line = p.field.gate as u64;
+    let region = region_of_line(p, line);
+    let length = line_length(p, line);
+    if p.field.regions[region].mode != Mode::Plain || length < 2 {
+        return;
+    }
+    let used: Vec<u16> = (0..p.field.count as usize).map(|i| p.sequence_of(i).pattern).collect();
+    let free: Vec<u16> = (0..10).filter(|k| !used.contains(k)).collect();
+    let second = rng.pick(&free);
+    let second_length = rng.edgy(1, length - 1);
+    let toggles = toggles_to(rng, (length - second_length + 2).min(4094));
+    let levels = rng.below(64) as u16;
+    let tried = with(p, |p| {
+        let any_pairs = pairs(rng, 0, 1);
+        set_pattern(p, second as usize, levels, second_length as u16, &toggles, any_pairs);
+        p.field.second = second;
+        let first_length = p.pattern(p.sequence_of(region).pattern).length;
+        let s = sequence_mut(p, region);
+        let most = second_length.saturating_sub(s.start as u64) / first_length;
+        let count = if line % 2 == 0 { &mut s.odd } else { &mut s.even };
+        *count = (*count).min(most as u16);
+    });
+    // A shared sequence may no longer suit its other region.
+    if check(&tried).is_ok() {
+        *p = tried;
+    }
+}
+
+fn gates(rng: &mut Rng, p: &mut Profile) {
+    let length = line_length(p, p.field.gate as u64);
+    for g in &mut p.gates {
+        if rng.percent(40) {
+            continue;
+        }
+        let level = rng.below(2) as u16;
+        *g = if length >= 2 && rng.percent(70) {
+            let toggle2 = rng.edgy(1, length - 1);
+            gate(1, level, rng.edgy(0, toggle2 - 1) as u16, toggle2 as u16)
+        } else {
+            gate(0, level, rng.below(4096) as u16, rng.below(4096) as u16)
+        };
+    }
+}
+
+fn subck_item(rng: &mut Rng, p: &mut Profile) {
+    if rng.percent(40) {
+        return;
+    }
+    let most = if rng.percent(80) { 40 } else { 4095 };
+    let toggle2 = rng.edgy(1, most);
+    let toggle1 = rng.edgy(0, toggle2 - 1);
+    let lines = if rng.percent(85) { (p.field.lines as u64).div_ceil(2) } else { 4095 };
+    let (suppressed, count) = (rng.edgy(1, lines), rng.edgy(0, lines));
+    p.subck = subck(rng.below(2) as u16, toggle1 as u16, toggle2 as u16, suppressed as u16, count as u16);
+}
+
+fn shutter_items(rng: &mut Rng, p: &mut Profile) {
+    for which in 0..SHUTTERS {
+        let (one, other) = (place(rng, p), place(rng, p));
+        if one != other && rng.percent(60) {
+            p.shutters[which] = shutter(rng.below(2) as u16, one.min(other), one.max(other));
+        }
+    }
+}
+
+/// A line and pixel of the field.
+fn place(rng: &mut Rng, p: &Profile) -> (u16, u16) {
+    let line = rng.edgy(0, p.field.lines as u64 - 1);
+    let pixel = rng.edgy(0, line_length(p, line) - 1);
+    (line as u16, pixel as u16)
+}
+
+// ---------------------------------------------------------------------------
+// Moving numbers
+
+/// Moves one number of the profile a little, to an edge of its range, to
+/// another number of the profile, or past its range.
+fn move_number(rng: &mut Rng, p: &mut Profile, in_range: bool) {
+    let i = number_to_move(rng, p);
+    let numbers = p.numbers();
+    let old = numbers[i];
+    let value = match limits(i) {
+        Limits::Flag => 1 - old,
+        Limits::Mode => (old + rng.between(1, 2) as u16) % 3,
+        Limits::Between(least, most) if in_range => {
+            let other = numbers[rng.between(240, 379) as usize];
+            let near = [old.wrapping_add(1), old.saturating_sub(1)];
+            rng.pick(&[near[0], near[1], near[0], near[1], least, most, other]).clamp(least, most)
+        }
+        Limits::Between(least, most) => rng.pick(&[most + 1, most + 1, least.wrapping_sub(1), 65_535]),
+    };
+    *p = with_number(p, i, value);
+}
+
+/// A number in the raw order, most often one that a rule looks at.
+fn number_to_move(rng: &mut Rng, p: &Profile) -> usize {
+    let region = rng.below(p.field.count.clamp(1, 7) as u64) as usize;
+    let sequence = (p.field.regions[region].sequence as usize).min(9);
+    let pattern = (p.sequences[sequence].pattern as usize).min(9);
+    let second = (p.field.second as usize).min(9);
+    match rng.below(20) {
+        0..=3 => 353 + rng.below(6) as usize,
+        4..=6 => 359 + 3 * region + rng.below(3) as usize,
+        7..=9 => 240 + 7 * sequence + rng.below(7) as usize,
+        10..=13 => 24 * pattern + rng.below(24) as usize,
+        14 => 24 * second + rng.below(24) as usize,
+        15 => 310 + rng.below(25) as usize,
+        16 => 335 + rng.below(6) as usize,
+        17 | 18 => 341 + rng.below(12) as usize,
+        _ => rng.below(NUMBERS as u64) as usize,
+    }
+}
+
+/// Breaks a few rules of a profile that is accepted. The last goes first: each
+/// edit needs that the rules before its own still hold.
+fn break_rules(rng: &mut Rng, p: &mut Profile, count: u64) {
+    let mut rules: Vec<u64> = (0..count).map(|_| rng.between(6, 17)).collect();
+    rules.sort();
+    for rule in rules.into_iter().rev() {
+        break_rule(rng, p, rule);
+    }
+}
+
+/// Breaks a rule, or brings it to its edge, at any region, gate or shutter.
+fn break_rule(rng: &mut Rng, p: &mut Profile, rule: u64) {
+    if rule == 6 {
+        p.field = Field::default();
+        return;
+    }
+    let i = rng.below(p.field.count as u64) as usize;
+    let pattern = p.sequence_of(i).pattern as usize;
+    match rule {
+        7 => break_order(rng, p, i),
+        8 => *sequence_mut(p, i) = Sequence::default(),
+        9 => set_length(p, pattern, 0),
+        10 => break_toggles(rng, p, pattern),
+        11 => break_mask(rng, p, i),
+        12 => break_counts(rng, p, i),
+        13 => break_run(rng, p, i),
+        14 => break_gate_line(rng, p),
+        15 => break_gate(rng, p),
+        16 => break_subck(rng, p),
+        _ => break_shutter(rng, p),
+    }
+}
+
+fn break_order(rng: &mut Rng, p: &mut Profile, i: usize) {
+    let before = if i == 0 { 1 } else { p.field.regions[i - 1].first };
+    p.field.regions[i].first = rng.pick(&[before, before.saturating_sub(1), p.field.lines.min(4094), 4094]);
+}
+
+/// Three small numbers, in whatever order.
+fn break_toggles(rng: &mut Rng, p: &mut Profile, pattern: usize) {
+    let length = p.pattern(pattern as u16).length;
+    let near = [0, 1, length.saturating_sub(1), length, length + 1, 4094, 4095].map(|t| t.min(4095) as u16);
+    let three = [rng.pick(&near), rng.pick(&near), rng.pick(&near)];
+    let output = rng.below(6) as usize;
+    set_toggles(p, pattern, output, three);
+}
+
+fn break_mask(rng: &mut Rng, p: &mut Profile, i: usize) {
+    let s = sequence_mut(p, i);
+    s.mask = rng.between(1, 3) as u16;
+    let pattern = s.pattern as usize;
+    let from = rng.below(30);
+    let pairs = [0; 4].map(|_| rng.between(from, from + 2) as u16);
+    set_pairs(p, pattern, pairs);
+}
+
+fn break_counts(rng: &mut Rng, p: &mut Profile, i: usize) {
+    let s = sequence_mut(p, i);
+    let by = rng.between(1, 2) as u16;
+    let count = if rng.percent(50) { &mut s.odd } else { &mut s.even };
+    *count = if rng.percent(50) { (*count + by).min(4095) } else { count.saturating_sub(by) };
+}
+
+/// A start with which the run ends exactly at the region's end, or past it.
+fn break_run(rng: &mut Rng, p: &mut Profile, i: usize) {
+    let size = region_size(p, i);
+    let s = *p.sequence_of(i);
+    let run = s.odd as u64 * p.pattern(s.pattern).length;
+    let start = size.saturating_sub(run) + rng.below(3);
+    sequence_mut(p, i).start = start.min(4095) as u16;
+}
+
+fn break_gate_line(rng: &mut Rng, p: &mut Profile) {
+    match rng.below(5) {
+        0 => p.field.gate = p.field.lines.min(4094),
+        1 => p.field.second = rng.below(10) as u16,
+        2 => p.field.gate = rng.below(p.field.lines as u64) as u16,
+        3 => {
+            let second = if p.field.second == NO_SECOND { rng.below(10) as u16 } else { p.field.second };
+            let line = line_length(p, p.field.gate as u64);
+            let length = rng.pick(&[0, 1, line - 1, line, p.pattern(second).length.saturating_sub(1)]);
+            p.field.second = second;
+            set_length(p, second as usize, length as u16);
+        }
+        // Only the mode of the gate line's region is wrong for a second pattern.
+        _ => {
+            let line = p.field.gate as u64;
+            let region = region_of_line(p, line);
+            let count = repetitions(p.sequence_of(region), line) as u16;
+            p.field.regions[region].mode = Mode::Sweep;
+            let s = sequence_mut(p, region);
+            *s = Sequence { odd: count, even: count, mask: 0, ..*s };
+        }
+    }
+}
+
+fn break_gate(rng: &mut Rng, p: &mut Profile) {
+    let length = line_length(p, p.field.gate as u64) as u16;
+    let (toggle1, toggle2) = (rng.below(length as u64) as u16, rng.below(length as u64) as u16);
+    let which = rng.below(5) as usize;
+    p.gates[which] = rng.pick(&[
+        gate(1, 0, toggle1, length),
+        gate(1, 1, toggle1, length - 1),
+        gate(1, 1, toggle1, toggle1),
+        gate(1, 0, toggle1, toggle2),
+        gate(0, 1, toggle1, toggle1),
+    ]);
+}
+
+fn break_subck(rng: &mut Rng, p: &mut Profile) {
+    let toggle = rng.below(4095) as u16;
+    p.subck = rng.pick(&[
+        subck(0, toggle, toggle, 1, 2),
+        subck(1, toggle + 1, toggle, 1, 2),
+        subck(1, toggle, toggle + 1, 0, 2),
+        subck(1, toggle, toggle + 1, 1, 2),
+    ]);
+}
+
+/// Places one past a line's end, past the field, or in the wrong order.
+fn break_shutter(rng: &mut Rng, p: &mut Profile) {
+    let which = rng.below(2) as usize;
+    let (one, other) = (place(rng, p), place(rng, p));
+    let past_line = (one.0, line_length(p, one.0 as u64) as u16);
+    let past_field = (p.field.lines, 0);
+    let last = (p.field.lines - 1, p.field.last - 1);
+    let (on, off) = rng.pick(&[
+        (one, past_line),
+        (past_line, last),
+        (one, past_field),
+        (one, one),
+        (one.max(other), one.min(other)),
+        (one, last),
+        ((0, 0), one),
+    ]);
+    p.shutters[which] = shutter(rng.below(2) as u16, on, off);
+}
+
+/// Several numbers of any size, absent items with numbers, or all at random.
+fn wild(rng: &mut Rng, p: &Profile) -> Profile {
+    let all = rng.percent(20);
+    let mut numbers = p.numbers();
+    for i in 0..NUMBERS {
+        if all || rng.below(150) == 0 {
+            numbers[i] = match limits(i) {
+                Limits::Flag => rng.below(2) as u16,
+                Limits::Mode => rng.below(3) as u16,
+                Limits::Between(..) => (rng.next() >> rng.below(64)) as u16,
+            };
+        }
+    }
+    Profile::from_numbers(&numbers).expect("flags and modes in range")
+}
+
+// ---------------------------------------------------------------------------
+// Scripts
+
+fn script(rng: &mut Rng) -> Vec<u8> {
+    let mut records = script_records(rng);
+    match rng.below(40) {
+        0..=21 => records.concat(),
+        22..=26 => cut(rng, records.concat()),
+        27..=29 => damaged(rng, records.concat()),
+        30..=34 => {
+            move_in_record(rng, &mut records);
+            records.concat()
+        }
+        35..=37 => {
+            damage_header(rng, &mut records);
+            records.concat()
+        }
+        38 => (0..rng.below(60)).map(|_| rng.below(8) as u8).collect(),
+        _ => padded(rng, records.concat()),
+    }
+}
+
+/// The records of a profile in any order, some of them said before otherwise.
+fn script_records(rng: &mut Rng) -> Vec<Vec<u8>> {
+    let mut p = any_profile(rng);
+    while check_ranges(&p).is_err() {
+        p = any_profile(rng);
+    }
+    let mut list = if rng.percent(20) { records(&p) } else { short_records(&p) };
+    if rng.percent(60) {
+        rng.shuffle(&mut list);
+    }
+    if rng.percent(40) {
+        let mut earlier = short_records(&valid(rng, TINY));
+        rng.shuffle(&mut earlier);
+        earlier.truncate(rng.between(1, 12) as usize);
+        // Only what the profile says again is certain to be replaced.
+        if rng.percent(70) {
+            earlier.retain(|e| list.iter().any(|l| same_item(e, l)));
+        }
+        list = [earlier, list].concat();
+    }
+    list
+}
+
+/// Whether two records are for the same item: kind, and number where there is
+/// one (kinds 3 and 5 have one item each).
+fn same_item(one: &[u8], other: &[u8]) -> bool {
+    let single = one[2] == 3 || one[2] == 5;
+    one[2] == other[2] && (single || one[4] == other[4])
+}
+
+fn cut(rng: &mut Rng, mut script: Vec<u8>) -> Vec<u8> {
+    let length = if rng.percent(50) {
+        script.len().saturating_sub(rng.between(1, 20) as usize)
+    } else {
+        rng.below(script.len() as u64 + 1) as usize
+    };
+    script.truncate(length);
+    script
+}
+
+fn damaged(rng: &mut Rng, mut script: Vec<u8>) -> Vec<u8> {
+    for _ in 0..rng.between(1, 3) {
+        if !script.is_empty() {
+            let i = rng.below(script.len() as u64) as usize;
+            script[i] = if rng.percent(50) { script[i] ^ 1 << rng.below(8) } else { rng.next() as u8 };
+        }
+    }
+    script
+}
+
+/// Moves one 2-byte number in a record's body.
+fn move_in_record(rng: &mut Rng, records: &mut [Vec<u8>]) {
+    // Not a register, where there is another record.
+    let others: Vec<usize> = (0..records.len()).filter(|i| records[*i][2] != 1).collect();
+    let which = if others.is_empty() || rng.percent(20) { rng.below(records.len().max(1) as u64) as usize } else { rng.pick(&others) };
+    let Some(record) = records.get_mut(which) else { return };
+    let at = 4 + 2 * rng.below((record.len() as u64 - 4) / 2) as usize;
+    let old = u16::from_le_bytes([record[at], record[at + 1]]);
+    let value = rng.pick(&[old.wrapping_add(1), old.wrapping_sub(1), 0, 1, 3, 4, 9, 10, 4094, 4095, 4096, 65_535, old ^ 0x100]);
+    record[at..at + 2].copy_from_slice(&value.to_le_bytes());
+}
+
+fn damage_header(rng: &mut Rng, records: &mut [Vec<u8>]) {
+    if records.is_empty() {
+        return;
+    }
+    let which = rng.below(records.len() as u64) as usize;
+    let at = rng.pick(&[0, 0, 1, 2, 2, 2, 3]);
+    records[which][at] = rng.pick(&[0, 1, 2, 3, 4, 5, 6, 7, 10, 12, 14, 16, 22, 28, 52, 58, 255]);
+}
+
+/// Registers before the script, up to about the most a script may have.
+fn padded(rng: &mut Rng, script: Vec<u8>) -> Vec<u8> {
+    let most = if rng.percent(80) { SCRIPT_MOST as u64 + 12 } else { SCRIPT_MOST_IN_A_CASE as u64 - 8 };
+    let length = rng.edgy(most - 24, most) as usize;
+    let mut out = Vec::new();
+    while out.len() + 8 + script.len() <= length {
+        let address = rng.pick(&[13, 50, 119]);
+        out.extend(register(address, rng.below(1 << 24) as u32));
+    }
+    out.extend(script);
+    out
+}
+
+// ---------------------------------------------------------------------------
+// Rooms, places, lists
+
+/// A slice around the bytes needed.
+fn slice(rng: &mut Rng, p: &Profile) -> Vec<u8> {
+    let needed = records(p).concat().len() as u64;
+    let length = match rng.below(5) {
+        0 => rng.below(needed),
+        1 => needed - 1,
+        2 => needed,
+        _ => needed + rng.below(30),
+    };
+    (0..length).map(|_| rng.next() as u8).collect()
+}
+
+fn level_case(rng: &mut Rng) -> Case {
+    let profile = any_profile(rng);
+    let line = match rng.below(12) {
+        0 => rng.wide(1),
+        1 => profile.field.lines as u64,
+        2 | 3 => profile.field.gate as u64,
+        4 => profile.field.lines.saturating_sub(1) as u64,
+        _ => rng.edgy(0, profile.field.lines.saturating_sub(1) as u64),
+    };
+    let length = length_or_9(&profile, line);
+    let pixel = match rng.below(12) {
+        0 => rng.wide(0),
+        1 => length,
+        _ => rng.edgy(0, length - 1),
+    };
+    Case::Level { profile, line, pixel }
+}
+
+/// A line's length, where the profile and the line have one.
+fn length_or_9(p: &Profile, line: u64) -> u64 {
+    if check(p).is_ok() && line < p.field.lines as u64 {
+        line_length(p, line)
+    } else {
+        9
+    }
+}
+
+fn locate_case(rng: &mut Rng) -> Case {
+    let profile = any_profile(rng);
+    let pixels = if check(&profile).is_ok() { crate::list::pixels(&profile) } else { 20 };
+    let n = match rng.below(12) {
+        0 => rng.wide(3),
+        1 => pixels,
+        2 => pixels - 1,
+        _ => rng.edgy(0, pixels - 1),
+    };
+    Case::Locate { profile, n }
+}
+
+fn compile_case(rng: &mut Rng) -> Case {
+    let size = size_to_compile(rng);
+    let profile = profile_of(rng, size);
+    let accepted = check(&profile).is_ok();
+    let needed = match (accepted, size.lines == FULL.lines) {
+        (true, false) => steps_needed(&profile).min(ENTRIES_MOST - 30) as u64,
+        (true, true) => ENTRIES_MOST as u64 - 30,
+        (false, _) => 5,
+    };
+    let room = |rng: &mut Rng| match rng.below(12) {
+        0 => rng.below(needed) as usize,
+        1 => needed as usize - 1,
+        2..=4 => needed as usize,
+        _ => (needed + rng.below(30)) as usize,
+    };
+    let counts = room(rng);
+    let words = if rng.percent(40) { counts } else { room(rng) };
+    Case::Compile { profile, counts: random_counts(rng, counts), words: random_words(rng, words) }
+}
+
+fn random_counts(rng: &mut Rng, length: usize) -> Vec<u32> {
+    (0..length).map(|_| rng.next() as u32).collect()
+}
+
+fn random_words(rng: &mut Rng, length: usize) -> Vec<u16> {
+    (0..length).map(|_| rng.next() as u16).collect()
+}
+
+fn play_case(rng: &mut Rng) -> Case {
+    let length = rng.edgy(0, 20) as usize;
+    let other = (length as u64 + rng.below(4)).saturating_sub(rng.below(3)) as usize;
+    let counts: Vec<u32> = (0..length).map(|_| play_count(rng)).collect();
+    let words = if rng.percent(50) { length } else { other };
+    let words = random_words(rng, words);
+    let used = match rng.below(10) {
+        0 => rng.wide(1),
+        1 => counts.len().max(words.len()) as u64,
+        2 => rng.edgy(0, counts.len() as u64 + 1),
+        _ => rng.edgy(0, counts.len().min(words.len()) as u64),
+    };
+    let position = play_position(rng, &counts);
+    Case::Play { counts, words, used, position }
+}
+
+fn play_count(rng: &mut Rng) -> u32 {
+    match rng.below(8) {
+        0 | 1 => 0,
+        2 => u32::MAX,
+        3 => rng.next() as u32,
+        _ => rng.below(9) as u32,
+    }
+}
+
+/// A position at, before or after a running sum.
+fn play_position(rng: &mut Rng, counts: &[u32]) -> u64 {
+    if rng.percent(10) {
+        return rng.wide(2);
+    }
+    let steps = rng.edgy(0, counts.len() as u64) as usize;
+    let sum: u64 = counts[..steps].iter().map(|c| *c as u64).sum();
+    rng.pick(&[sum, sum.wrapping_sub(1), sum + 1, sum.saturating_sub(2)])
+}
+
+#[cfg(test)]
+mod tests {
+    use super::*;
+
+    #[test]
+    fn valid_profiles_are_accepted() {
+        let mut rng = Rng { state: 3 };
+        for size in [TINY, SMALL, MEDIUM, FULL] {
+            for _ in 0..2000 {
+                assert_eq!(check(&valid(&mut rng, size)), Ok(()));
+            }
+        }
+    }
+}

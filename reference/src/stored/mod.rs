@@ -1,0 +1,100 @@
+//! The stored batch: fixed, by hand. Every number of refusal at several places,
+//! every mode, edge and slip that 01 names.
+
+mod full;
+mod lists;
+mod ranges;
+mod reading;
+mod rules;
+mod w;
+mod words;
+
+use crate::case::{Case, ENTRIES_MOST};
+use crate::list::steps_needed;
+use crate::make::*;
+use crate::profile::Profile;
+use crate::ranges::check_ranges;
+use crate::rules::check;
+
+pub fn cases() -> Vec<Case> {
+    let mut batch = Batch { cases: Vec::new() };
+    w::add(&mut batch);
+    reading::add(&mut batch);
+    ranges::add(&mut batch);
+    rules::add(&mut batch);
+    words::add(&mut batch);
+    lists::add(&mut batch);
+    full::add(&mut batch);
+    batch.cases
+}
+
+struct Batch {
+    cases: Vec<Case>,
+}
+
+impl Batch {
+    fn read(&mut self, script: Vec<u8>) {
+        self.cases.push(Case::Read { script });
+    }
+
+    fn check(&mut self, profile: &Profile) {
+        self.cases.push(Case::Check { profile: *profile });
+    }
+
+    fn write(&mut self, profile: &Profile, room: usize) {
+        self.cases.push(Case::Write { profile: *profile, slice: lent_slice(room) });
+    }
+
+    fn level(&mut self, profile: &Profile, line: u64, pixel: u64) {
+        self.cases.push(Case::Level { profile: *profile, line, pixel });
+    }
+
+    fn locate(&mut self, profile: &Profile, n: u64) {
+        self.cases.push(Case::Locate { profile: *profile, n });
+    }
+
+    fn compile(&mut self, profile: &Profile, counts: usize, words: usize) {
+        let (counts, words) = (lent_counts(counts), lent_words(words));
+        self.cases.push(Case::Compile { profile: *profile, counts, words });
+    }
+
+    fn play(&mut self, counts: &[u32], words: &[u16], used: u64, position: u64) {
+        self.cases.push(Case::Play { counts: counts.to_vec(), words: words.to_vec(), used, position });
+    }
+
+    /// Checked as it is handed in, and read where a script can carry it.
+    fn judge(&mut self, profile: &Profile) {
+        self.check(profile);
+        if check_ranges(profile).is_ok() {
+            self.read(short_script(profile));
+        }
+    }
+
+    /// Judged, and all its words compiled with two entries to spare.
+    fn show(&mut self, profile: &Profile) {
+        self.judge(profile);
+        let room = match check(profile) {
+            Ok(()) => (steps_needed(profile) + 2).min(ENTRIES_MOST),
+            Err(_) => 3,
+        };
+        self.compile(profile, room, room);
+    }
+
+    /// Every entry point that takes a profile, asked what it would accept.
+    fn ask_all(&mut self, profile: &Profile) {
+        self.judge(profile);
+        self.write(profile, 1320);
+        self.level(profile, 0, 0);
+        self.locate(profile, 0);
+        self.compile(profile, 40, 41);
+    }
+
+    /// Every entry point that takes a profile, asked for what is not there: a
+    /// refused profile is refused first, "18 or 19 last".
+    fn ask_all_too_much(&mut self, profile: &Profile) {
+        self.write(profile, 5);
+        self.level(profile, u64::MAX, u64::MAX);
+        self.locate(profile, u64::MAX);
+        self.compile(profile, 0, 0);
+    }
+}

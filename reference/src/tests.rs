@@ -1,0 +1,224 @@
+//! Cases computed by hand from 01, and what the batches must cover.
+
+use crate::case::{answer, decode_batch, Case};
+use crate::list::{compile, play, Compiled};
+use crate::make::*;
+use crate::profile::*;
+use crate::refusal::Refusal;
+use crate::rules::check;
+use crate::script::{read, records, write};
+use crate::word::{level, locate};
+use crate::{random, stored};
+use std::collections::BTreeSet;
+
+fn refused<T>(number: u8, place: u64) -> Result<T, Refusal> {
+    Err(Refusal { number, place })
+}
+
+/// The bits of one output over a line's pixels.
+fn output(p: &Profile, bit: u16, line: u64, pixels: u64) -> String {
+    (0..pixels).map(|pixel| if level(p, line, pixel).unwrap() >> bit & 1 == 1 { '1' } else { '0' }).collect()
+}
+
+/// The steps of a compile with one entry to spare.
+fn steps(p: &Profile, room: usize) -> Vec<(u32, u16)> {
+    let (mut counts, mut words) = (lent_counts(room + 1), lent_words(room));
+    let used = compile(p, &mut counts, &mut words).unwrap().steps as usize;
+    assert_eq!(counts[used..], lent_counts(room + 1)[used..]);
+    assert_eq!(words[used..], lent_words(room)[used..]);
+    counts[..used].iter().copied().zip(words[..used].iter().copied()).collect()
+}
+
+#[test]
+fn w1_base_profile() {
+    assert_eq!(read(&script_a()), Ok(profile_a()));
+    let seven = [(3, 0x0FC1), (2, 0x0FC0), (8, 0x0FC1), (2, 0x0FC0), (2, 0x0FC1), (2, 0x0FC0), (1, 0x0FC1)];
+    assert_eq!(steps(&profile_a(), 9), seven);
+}
+
+#[test]
+fn w5_a_frozen_line() {
+    let p = with(&profile_a(), |p| {
+        p.sequences[0].mask = 1;
+        set_pairs(p, 0, [3, 6, 0, 0]);
+    });
+    assert_eq!(output(&p, 0, 0, 10), "1110001111");
+}
+
+#[test]
+fn w9_a_multiplier_pulse_over_line_ends() {
+    let p = with(&profile_a(), |p| {
+        set_pattern(p, 0, 0, 4, &[[2, 5, 4095]], NO_PAIRS);
+        p.sequences[0] = sequence(0, 10, 1, 5, 5, 0);
+        p.field = field(3, 10, 0, NO_SECOND, &[region(0, 0, Mode::Multiplier)]);
+    });
+    assert_eq!(steps(&p, 3), [(9, 0x0FC0), (12, 0x0FC1), (9, 0x0FC0)]);
+    for n in 0..30 {
+        let (line, pixel) = locate(&p, n).unwrap();
+        assert_eq!(level(&p, line, pixel).unwrap() & 1 == 1, (9..=20).contains(&n));
+    }
+    assert_eq!(locate(&p, 30), refused(19, 0));
+}
+
+#[test]
+fn w11_room_for_six_steps() {
+    for (c, w) in [(6, 6), (6, 9), (9, 6)] {
+        let (mut counts, mut words) = (lent_counts(c), lent_words(w));
+        assert_eq!(compile(&profile_a(), &mut counts, &mut words), refused(18, 7));
+        assert_eq!((counts, words), (lent_counts(c), lent_words(w)));
+    }
+}
+
+#[test]
+fn w12_no_such_pixel() {
+    assert_eq!(level(&profile_a(), 1, 10), refused(19, 0));
+}
+
+/// Three lines of 8, 8 and 6 pixels. The first pattern runs over pixels 1 to 6
+/// of lines 0 and 2 and 1 to 3 of line 1; line 1 is the gate line and has the
+/// second pattern from pixel 4 on; the freeze holds pixel 2 up to pixel 5, on
+/// line 1 past the second's start. VSG1 is low at pixels 2 to 4 of line 1,
+/// SUBCK high from pixel 3 of line 2, MSHUT from line 0 pixel 6 to line 1
+/// pixel 1.
+#[test]
+fn all_rules_on_three_lines() {
+    let p = with(&Profile::empty(), |p| {
+        set_pattern(p, 0, 0b10, 3, &[[1, 2, 4095], [0, 4095, 4095]], [2, 6, 0, 0]);
+        set_pattern(p, 1, 0b01, 4, &[[1, 4095, 4095], [0, 4095, 4095]], NO_PAIRS);
+        p.sequences[0] = sequence(0, 8, 1, 2, 1, 1);
+        p.field = field(3, 6, 1, 1, &[region(0, 0, Mode::Plain)]);
+        p.gates[0] = gate(1, 1, 2, 5);
+        p.subck = subck(0, 3, 9, 1, 1);
+        p.shutters[0] = shutter(1, (0, 6), (1, 2));
+    });
+    assert_eq!(output(&p, 0, 0, 8), "00111100");
+    assert_eq!(output(&p, 1, 1, 8), "10000011");
+    let twelve = [
+        (1, 0x07C2),
+        (1, 0x07C0),
+        (4, 0x07C1),
+        (1, 0x17C0),
+        (2, 0x17C2),
+        (1, 0x17C0),
+        (3, 0x0781),
+        (1, 0x07C1),
+        (3, 0x07C2),
+        (1, 0x07C0),
+        (1, 0x07C1),
+        (3, 0x0FC1),
+    ];
+    assert_eq!(steps(&p, 12), twelve);
+}
+
+#[test]
+fn playing_takes_counts_off_the_position() {
+    let (counts, words) = ([2, 0, u32::MAX, 1], [7, 8, 9, 10]);
+    assert_eq!(play(&counts, &words, 4, 1), Ok(7));
+    assert_eq!(play(&counts, &words, 4, 2), Ok(9));
+    assert_eq!(play(&counts, &words, 4, 2 + u32::MAX as u64), Ok(10));
+    assert_eq!(play(&counts, &words, 4, 3 + u32::MAX as u64), refused(19, 0));
+    assert_eq!(play(&counts, &words[..3], 4, 1), refused(20, 0));
+    assert_eq!(play(&counts, &words, u64::MAX, u64::MAX), refused(20, 0));
+}
+
+#[test]
+fn written_scripts_are_998_to_1312_bytes_and_read_back() {
+    let most = with(&profile_rich(), |p| {
+        for i in 7..10 {
+            p.sequences[i] = sequence(i as u16, 9, 1, 2, 3, 1);
+        }
+    });
+    for (p, length) in [(profile_a(), 998), (most, 1312)] {
+        let mut slice = lent_slice(length);
+        assert_eq!(write(&p, &mut slice[..length - 1]), refused(18, length as u64));
+        assert_eq!(slice, lent_slice(length));
+        assert_eq!(write(&p, &mut slice), Ok(length));
+        assert_eq!(read(&slice), Ok(p));
+    }
+}
+
+// ---------------------------------------------------------------------------
+// The batches
+
+#[test]
+fn a_batch_reads_back() {
+    for cases in [stored::cases(), random::cases(7, 300)] {
+        let batch: Vec<u8> = cases.iter().flat_map(Case::encode).collect();
+        assert_eq!(decode_batch(&batch), Some(cases));
+    }
+}
+
+/// Kind, number and place of each answer. Where the place is an offset or a
+/// need, it is left out.
+fn answers_of(cases: &[Case]) -> BTreeSet<(char, u64, u64)> {
+    let mut seen = BTreeSet::new();
+    for (k, case) in cases.iter().enumerate() {
+        let text = answer(k, case);
+        let head: Vec<u64> = text.lines().nth(1).unwrap().split(' ').map(|n| n.parse().unwrap()).collect();
+        let offset_or_need = matches!(head[0], 2..=5 | 18);
+        seen.insert((case.kind(), head[0], if offset_or_need { 0 } else { head[1] }));
+    }
+    seen
+}
+
+/// Every number of refusal that an entry point can answer, at each region, gate
+/// and shutter.
+#[test]
+fn the_stored_batch_covers_every_refusal() {
+    let seen = answers_of(&stored::cases());
+    let of_rules = [0, 5, 6, 7, 8, 9, 10, 11, 12, 13, 14, 15, 16, 17];
+    let has = |kind, number| seen.iter().any(|(k, n, _)| *k == kind && *n == number);
+    for (kind, more) in [('R', vec![1, 2, 3, 4]), ('C', vec![]), ('W', vec![18]), ('L', vec![19]), ('N', vec![19]), ('K', vec![18])] {
+        for number in of_rules.into_iter().chain(more) {
+            assert!(has(kind, number), "{kind} never answers {number}");
+        }
+    }
+    for number in [0, 19, 20] {
+        assert!(has('P', number), "P never answers {number}");
+    }
+    for kind in ['R', 'C'] {
+        let places = (7..=13).flat_map(|n| (0..7).map(move |place| (n, place)));
+        let others = (0..5).map(|gate| (15, gate)).chain((0..2).map(|which| (17, which)));
+        for (number, place) in places.chain(others) {
+            assert!(seen.contains(&(kind, number, place)), "{kind} never answers {number} at {place}");
+        }
+    }
+}
+
+/// The bases of the stored batch are accepted: what is built on them breaks
+/// what it means to break.
+#[test]
+fn the_bases_are_accepted() {
+    for p in [profile_a(), profile_rich(), profile_seven(Mode::Plain), profile_seven(Mode::Sweep), profile_seven(Mode::Multiplier)] {
+        assert_eq!(check(&p), Ok(()));
+    }
+}
+
+/// Nothing panics or wraps, accepted profiles survive writing and reading, and
+/// compiled lists play what the words say.
+#[test]
+fn random_cases_agree_with_themselves() {
+    for seed in 0..20 {
+        for (k, case) in random::cases(seed, 400).iter().enumerate() {
+            answer(k, case);
+            match case {
+                Case::Check { profile } if check(profile).is_ok() => {
+                    assert_eq!(read(&records(profile).concat()), Ok(*profile));
+                    assert_eq!(read(&short_script(profile)), Ok(*profile));
+                }
+                Case::Compile { profile, counts, words } => plays_its_field(profile, counts.clone(), words.clone()),
+                _ => {}
+            }
+        }
+    }
+}
+
+fn plays_its_field(profile: &Profile, mut counts: Vec<u32>, mut words: Vec<u16>) {
+    let Ok(Compiled { steps, pixels }) = compile(profile, &mut counts, &mut words) else { return };
+    let every = (pixels / 50).max(1);
+    for n in (0..pixels).step_by(every as usize).chain([pixels - 1]) {
+        let (line, pixel) = locate(profile, n).unwrap();
+        assert_eq!(play(&counts, &words, steps, n), level(profile, line, pixel));
+    }
+    assert_eq!(play(&counts, &words, steps, pixels), refused(19, 0));
+}
