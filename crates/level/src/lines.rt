@@ -27,7 +27,7 @@ ghost use Rattle.profile.specs.Geometry.{regionPixels, gateLines};
 ghost use Rattle.profile.specs.Rules.{pairOn, hasSecond};
 ghost use Rattle.level.specs.Line.{among, gateHere, subckHere, opensAt, closesAt, shutterHere, emptyPattern, lineIn, noLine, lineOf};
 
-// The first pattern's pixels before a line of region i.
+// The region's pixels before a line of region i.
 fn origin_of(tables: Tables, field: Field, i: usize, line: u16) -> u32
     ensures { λ r. ⌜ r ≡ regionPixels tables field i line ⌝ }
 {
