@@ -113,7 +113,7 @@ abbrev field : ℕ → ℕ → List ℕ
 field lines mode = twoBytes (16 ∷ 3 ∷ lines ∷ 10 ∷ 0 ∷ 65535 ∷ 1 ∷ 0 ∷ 0 ∷ mode ∷ [])
 
 -- base profile A, and A with a freeze and resume pair under mask 1
-abbrev a : List ℕ
+abbrev pub a : List ℕ
 a = pattern 0x004001 0x003001 ++ unused ++ sequence 2 1 2 0 ++ field 2 0
 
 abbrev masked : ℕ → ℕ → List ℕ

@@ -28,7 +28,8 @@ use Rattle.level.specs.Place.{lineAt, pixelAt, placeOf}
 use Rattle.level.specs.Fieldwords.{fieldWords}
 use Rattle.holdlist.specs.declared.Step.{Step}
 use Rattle.holdlist.specs.declared.Compiled.{Compiled}
-use Rattle.holdlist.specs.Play.{playAnswer, shown}
+use Rattle.holdlist.specs.declared.Played.{Played}
+use Rattle.holdlist.specs.Play.{playAnswer, shown, notShown}
 use Rattle.holdlist.specs.Runs.{runs, countsOf, wordsOf}
 use Rattle.holdlist.specs.Compile.{fieldRuns, roomOf, compileVerdict, compileAnswer, compileCounts, compileWords}
 use Rattle.holdlist.specs.Demand.{Plays, Fewest, Demand}
@@ -266,3 +267,23 @@ pub demand-3-pixels :
     (placeOf (p .tables) (p .field) line pixel)
     ≡ shown (wordOf (lineOf (p .tables) (p .field) line) pixel)
 demand-3-pixels p cs ws = compile-shows p cs ws (worded (p .tables) (p .field)) (placed (p .tables) (p .field))
+
+-- ---- over what compile and play ensure
+
+-- a run of compile: its answer and the lists at exit are those of its contract
+module _
+    (p : Profile) (cs ws : List ℕ) (r : Compiled) (cs′ ws′ : List ℕ) (answer : r ≡ compileAnswer p (roomOf cs ws))
+    (counts : cs′ ≡ compileCounts p (roomOf cs ws) cs) (words : ws′ ≡ compileWords p (roomOf cs ws) ws) where
+  -- demand 3 of such a run
+  pub demand-3-run : checkProfile p ≡ accepted → Demand (p .tables) (p .field) cs ws r cs′ ws′
+  demand-3-run e = rw (answer, counts, words) (demand-3 p cs ws e)
+
+  -- and what a run of play after it answers, at every position
+  pub demand-3-played :
+      checkProfile p ≡ accepted → r .verdict .number ≡ 0 → (n : ℕ) (a : Played) → a ≡ playAnswer cs′ ws′ (r .steps) n →
+      (n < pixelCount (p .tables) (p .field) →
+      a ≡ shown (wordOf (lineOf (p .tables) (p .field) (lineAt (p .tables) (p .field) n)) (pixelAt (p .tables) (p .field) n)))
+      × (pixelCount (p .tables) (p .field) ≤ n → a ≡ notShown 19)
+  demand-3-played e z n a x =
+      let q = demand-3-run e .plays z in
+      ((λ h. x ∙ q .shows n h), λ h. x ∙ q .ends n h)

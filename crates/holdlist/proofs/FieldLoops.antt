@@ -4,21 +4,18 @@
 use Prim.Native.Nat.{ℕ, _+_, _-_, _≤_, _<_, _^_, min}
 use native.Mathlib.Omega.{arith}
 use mathlib.Core.Path.{_≡_, refl, sym, ap, _∙_}
-use mathlib.Core.Bool.{false}
 use mathlib.Core.List.{List}
 use lib.ListN.{length}
 use borrow.Rule.Slice.PartMut.{midOf, putMid}
 use Rattle.profile.specs.Lists.{chunks}
 use Rattle.profile.specs.Values.{accepted}
 use Rattle.profile.specs.Geometry.{regionCount, firstLine, endLine, lineLength}
-use Rattle.profile.specs.Ranges.{inRange}
 use Rattle.profile.specs.Rules.{checkProfile}
 use Rattle.profile.specs.declared.Tables.{Tables}
 use Rattle.profile.specs.declared.Field.{Field}
 use Rattle.profile.specs.declared.Profile.{Profile}
-use Rattle.profile.specs.declared.Verdict.{Verdict}
-use Rattle.profile.proofs.Laws.{by-cases, chunks-none, chunk-room}
-use Rattle.profile.proofs.Checked.{check-range, check-judge, judge-number}
+use Rattle.profile.proofs.Laws.{chunks-none, chunk-room}
+use Rattle.profile.proofs.Checked.{check-range}
 use Rattle.profile.proofs.Accepted.{accepted-exactly, accepted-ordered}
 use Rattle.profile.proofs.Lines.{Ordered, start-before-end, end-most, line-length-most, pixels-most}
 use Rattle.level.specs.declared.Line.{Line}
@@ -124,16 +121,3 @@ module _ (t : Tables) (f : Field) (ok : checkProfile (record { tables = t; field
       {h : Step} {cs ws cs′ ws′ : List ℕ} {n i : ℕ} →
       i ≡ regionCount f → Filling none (chunks i region) cs ws n h cs′ ws′ → Fills none (fieldWords t f) cs ws n h cs′ ws′
   regions-end {i = i} e x = fills-as (ap (λ (m : ℕ). chunks m region) e ∙ regions-whole) (x .fills)
-
--- ---- the check's verdict
-
--- there is no other verdict of number 0
-pub check-number : (p : Profile) → checkProfile p .number ≡ 0 → checkProfile p ≡ accepted
-unfolding checkProfile
-check-number p z =
-    by-cases (inRange p)
-    (λ h. let e = check-judge p h in e ∙ judge-number p (sym (ap (λ (v : Verdict). v .number) e) ∙ z))
-    (λ h. absurd (out-of-range p h z))
-  where
-    out-of-range : (p : Profile) → inRange p ≡ false → checkProfile p .number ≡ 0 → ⊥
-    out-of-range p h z = let w : _≡_ {A = ℕ} 5 0 = rw h at z in omega arith

@@ -5,4 +5,8 @@ pub mod Shortest
 pub mod Demanded
 pub mod Fills
 pub mod Passes
+pub mod Spelling
+pub mod Printed
+pub mod Puts
+pub mod Told
 pub mod FieldLoops

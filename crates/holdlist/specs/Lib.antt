@@ -3,3 +3,4 @@ pub mod Runs
 pub mod Compile
 pub mod Demand
 pub mod Fills
+pub mod Text

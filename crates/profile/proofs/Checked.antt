@@ -2,7 +2,7 @@
 -- Every rule has a number of refusal, so a list of rules without a broken one has them all.
 -- Assumes nothing.
 use mathlib.Core.Path.{_≡_, sym, ap, _∙_}
-use mathlib.Core.Bool.{true}
+use mathlib.Core.Bool.{true, false}
 use mathlib.Core.List.{_++_}
 use Prim.Native.Nat.{ℕ, _<_}
 use native.Mathlib.Omega.{arith}
@@ -118,3 +118,14 @@ judge-number p e =
     let n = sym (ap (λ (v : Verdict). v .number) q) ∙ e in
     q ∙ number-accepted (rulesOf (p .tables) (p .field)) (numbered-rules (p .tables) (p .field)) n)
     (λ h. let z = rw h at e in absurd (omega arith))
+
+-- there is no other verdict of number 0
+pub check-number : (p : Profile) → checkProfile p .number ≡ 0 → checkProfile p ≡ accepted
+unfolding checkProfile
+check-number p z =
+    by-cases (inRange p)
+    (λ h. let e = check-judge p h in e ∙ judge-number p (sym (ap (λ (v : Verdict). v .number) e) ∙ z))
+    (λ h. absurd (out-of-range p h z))
+  where
+    out-of-range : (p : Profile) → inRange p ≡ false → checkProfile p .number ≡ 0 → ⊥
+    out-of-range p h z = let w : _≡_ {A = ℕ} 5 0 = rw h at z in omega arith

@@ -27,6 +27,7 @@ use Rattle.profile.specs.Script.{
   known,
   allowed,
   Step,
+  step,
   stop,
   next,
 }
@@ -109,3 +110,7 @@ foundAt s at = foundFront at (drop at s)
 abbrev pub stepAnswer : ℕ → Profile → Step → RecordAnswer
 stepAnswer at p (stop n) = record { number = n; next = at; profile = p }
 stepAnswer at p (next len q) = record { number = 0; next = at + (4 + len); profile = q }
+
+-- The answer of the record at an offset of a script.
+abbrev pub recordAnswer : List ℕ → ℕ → Profile → RecordAnswer
+recordAnswer s at p = stepAnswer at p (step (drop at s) p)

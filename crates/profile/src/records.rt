@@ -24,7 +24,7 @@ use crate::values::mode_of;
 ghost use mathlib.Core.Path.{_≡_};
 ghost use mathlib.Core.Bool.{true, false};
 ghost use Prim.Native.Nat.{_+_, _*_, _<_, _≤_};
-ghost use lib.ListN.{length, drop};
+ghost use lib.ListN.{length};
 ghost use Rattle.profile.specs.Bytes.{numberAt, dataAt};
 ghost use Rattle.profile.specs.Values.{emptyProfile, readAnswer};
 ghost use Rattle.profile.specs.Script.{
@@ -37,7 +37,6 @@ ghost use Rattle.profile.specs.Script.{
   allowed,
   fits,
   put,
-  step,
   records,
   readScript,
 };
@@ -55,7 +54,7 @@ ghost use Rattle.profile.specs.Reading.{
   regionsAnswer,
   unfound,
   foundAt,
-  stepAnswer,
+  recordAnswer,
 };
 
 // ---- numbers of a body, little-endian
@@ -460,7 +459,7 @@ pub(crate) fn found_at(script: &[u8], at: usize) -> Found
 
 // One record at an offset of the script, put into the profile. Past the end there is none: 2.
 pub(crate) fn record_at(script: &[u8], at: usize, profile: Profile) -> RecordAnswer
-    ensures { λ r. ⌜ r ≡ stepAnswer at profile (step (drop at (now (script .entry))) profile) ⌝ }
+    ensures { λ r. ⌜ r ≡ recordAnswer (now (script .entry)) at profile ⌝ }
 {
     let found = found_at(script, at);
     if found.number != 0 {
@@ -486,6 +485,34 @@ pub(crate) fn record_at(script: &[u8], at: usize, profile: Profile) -> RecordAns
         next: end,
         profile: after,
     }
+}
+
+// ---- the reader
+
+// The lent script and a place in it, as one thing.
+struct Reader<'a> {
+    script: &'a [u8],
+    at: usize,
+}
+
+fn open<'a>(script: &'a [u8], at: usize) -> Reader<'a>
+    ensures { λ r. ⌜ (r .script ≡ script .entry) × (r .at ≡ at) ⌝ }
+{
+    Reader { script, at }
+}
+
+// The record at the reader's place, put into the profile.
+fn advance<'a>(reader: Reader<'a>, profile: Profile) -> RecordAnswer
+    ensures { λ r. ⌜ r ≡ recordAnswer (now (reader .entry .script)) (reader .entry .at) profile ⌝ }
+{
+    record_at(reader.script, reader.at, profile)
+}
+
+// One record, by a reader at an offset of the script.
+fn record_by(script: &[u8], at: usize, profile: Profile) -> RecordAnswer
+    ensures { λ r. ⌜ r ≡ recordAnswer (now (script .entry)) at profile ⌝ }
+{
+    advance(open(script, at), profile)
 }
 
 // ---- all records
@@ -514,7 +541,7 @@ pub(crate) fn read_records(script: &[u8]) -> ReadAnswer
     let mut profile = empty();
     let mut at: usize = 0;
     while at < script.len() {
-        let answer = record_at(script, at, profile);
+        let answer = record_by(script, at, profile);
         if answer.number != 0 {
             return make_answer(refuse(answer.number, at as u64), profile);
         }

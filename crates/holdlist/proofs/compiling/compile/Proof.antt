@@ -4,7 +4,7 @@ use mathlib.Core.Path.{sym, ap, _∙_}
 use borrow.Author.Tests.{ne-eqb}
 use Rattle.profile.specs.Values.{accepts}
 use Rattle.profile.specs.declared.Verdict.{Verdict}
-use Rattle.holdlist.proofs.FieldLoops.{check-number}
+use Rattle.profile.proofs.Checked.{check-number}
 use Rattle.holdlist.proofs.Passes.{passes-refused, passes-short, passes-fit}
 use borrow.Author.Needs.{needs}
 use Rattle.holdlist.proofs.compiling.compile.Statement.{statement}

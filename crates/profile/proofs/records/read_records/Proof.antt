@@ -23,8 +23,8 @@ empty-requires c κs = search needs
 loop-holds : tie.Need-loop-holds Inv-loop μ-loop
 loop-holds c = read-start _ _ (c .empty .ensures)
 
-record-at-requires : tie.Need-record-at-requires Inv-loop μ-loop
-record-at-requires c κs = search needs
+record-by-requires : tie.Need-record-by-requires Inv-loop μ-loop
+record-by-requires c κs = search needs
 
 refuse-requires : tie.Need-refuse-requires Inv-loop μ-loop
 refuse-requires c κs = search needs
@@ -38,21 +38,21 @@ returns c =
     let l = d .before .before .loop in
     let s = d .before .before .before .before .before .args .script .now in
     c .make-answer .ensures ∙ rw (c .before .refuse .ensures)
-    (read-stop s (l .at) (l .profile) _ (d .record-at .ensures) (d .before .loop-test .taken) (c .before .before .if1 .taken) ∙ l .inv)
+    (read-stop s (l .at) (l .profile) _ (d .record-by .ensures) (d .before .loop-test .taken) (c .before .before .if1 .taken) ∙ l .inv)
 
 loop-less : tie.Need-loop-less Inv-loop μ-loop
 loop-less c =
     let d = c .before .before .before in
     let l = d .before .before .loop in
     let s = d .before .before .before .before .before .args .script .now in
-    omega (arith, d .before .loop-test .taken, further s (l .at) (l .profile) _ (d .record-at .ensures) (c .before .if1 .left))
+    omega (arith, d .before .loop-test .taken, further s (l .at) (l .profile) _ (d .record-by .ensures) (c .before .if1 .left))
 
 loop-again : tie.Need-loop-again Inv-loop μ-loop
 loop-again c =
     let d = c .before .before .before in
     let l = d .before .before .loop in
     let s = d .before .before .before .before .before .args .script .now in
-    read-on s (l .at) (l .profile) _ (d .record-at .ensures) (c .before .if1 .left) ∙ l .inv
+    read-on s (l .at) (l .profile) _ (d .record-by .ensures) (c .before .if1 .left) ∙ l .inv
 
 accept-requires : tie.Need-accept-requires Inv-loop μ-loop
 accept-requires c κs = search needs
@@ -73,7 +73,7 @@ read-records-spec =
     μ-loop
     empty-requires
     loop-holds
-    record-at-requires
+    record-by-requires
     refuse-requires
     make-answer-requires
     returns
