@@ -3,7 +3,7 @@
 # another language, by another hand.
 set -u
 cd "$(dirname "$0")/.." || exit 1
-program=target/bin/booth
+program=${PROGRAM:-target/bin/booth}
 [ -x "$program" ] || { echo "vectors: no $program"; exit 1; }
 work=$(mktemp -d) || exit 1
 trap 'rm -rf "$work"' EXIT

@@ -1,0 +1,368 @@
+// The whole job in plain C, written from the rules and not from the Rattle code: reads a script from standard input, checks it, makes the hold list
+// in one pass over the field's pixels, and prints the list or the refusal. The code of a word is that of bench/levels.c.
+#include <stdbool.h>
+#include <stdint.h>
+#include <stdio.h>
+#include <stdlib.h>
+
+enum { SCRIPT_MOST = 16384, ROOM = 4096, UNUSED = 4095, NO_SECOND = 65535 };
+enum mode { PLAIN, SWEEP, MULTIPLIER };
+
+typedef struct { uint16_t low, high; } range;
+typedef struct { uint16_t levels, length, toggles[18], pairs[4]; } pattern;
+
+// The profile: what the records carry.
+typedef struct { bool given; uint16_t pattern, length, start, counts[2], mask; } sequence;
+typedef struct { uint16_t first, sequence, mode; } region;
+typedef struct { bool given; uint16_t lines, last, gate, second, n; region regions[7]; } field;
+typedef struct { bool given; uint16_t on, level, toggle1, toggle2; } gate;
+typedef struct { bool given; uint16_t level, toggle1, toggle2, suppressed, count; } subck;
+typedef struct { bool given; uint16_t level, on_line, on_pixel, off_line, off_pixel; } shutter;
+
+static uint32_t registers[120];
+static sequence sequences[10];
+static field the_field;
+static gate gates[5];
+static subck the_subck;
+static shutter shutters[2];
+
+static void refuse(int number, unsigned long place) {
+    printf("refused %d %lu\n", number, place);
+    exit(0);
+}
+
+// Reading: one record after another, a later one replaces an earlier one.
+
+static uint16_t number(const uint8_t *body, int i) { return body[2 * i] | body[2 * i + 1] << 8; }
+
+static bool within(const uint8_t *body, const range *ranges, int n) {
+    for (int i = 0; i < n; i++)
+        if (number(body, i) < ranges[i].low || number(body, i) > ranges[i].high) return false;
+    return true;
+}
+
+static bool take_register(const uint8_t *b) {
+    if (b[0] >= 120 || (b[0] % 12 == 0 && ((b[1] | b[2] << 8) >> 6 & 63) != 0)) return false;
+    registers[b[0]] = b[1] | b[2] << 8 | (uint32_t)b[3] << 16;
+    return true;
+}
+
+static bool take_sequence(const uint8_t *b) {
+    static const range ranges[] = {{0, 9}, {0, 9}, {1, 4095}, {0, 4095}, {0, 4095}, {0, 4095}, {0, 3}};
+    if (!within(b, ranges, 7)) return false;
+    sequences[number(b, 0)] =
+        (sequence){true, number(b, 1), number(b, 2), number(b, 3), {number(b, 4), number(b, 5)}, number(b, 6)};
+    return true;
+}
+
+static bool take_field(const uint8_t *b, unsigned length) {
+    static const range ranges[] = {{1, 4095}, {1, 4095}, {0, 4094}, {0, 65535}, {1, 7}};
+    static const range of_region[] = {{0, 4094}, {0, 9}, {0, 2}};
+    field f = {true, number(b, 0), number(b, 1), number(b, 2), number(b, 3), number(b, 4), {{0, 0, 0}}};
+    if (!within(b, ranges, 5) || (f.second > 9 && f.second != NO_SECOND) || length != 10u + 6 * f.n) return false;
+    for (int i = 0; i < f.n; i++) {
+        const uint8_t *r = b + 10 + 6 * i;
+        if (!within(r, of_region, 3)) return false;
+        f.regions[i] = (region){number(r, 0), number(r, 1), number(r, 2)};
+    }
+    the_field = f;
+    return true;
+}
+
+static bool take_gate(const uint8_t *b) {
+    static const range ranges[] = {{0, 4}, {0, 1}, {0, 1}, {0, 4095}, {0, 4095}};
+    if (!within(b, ranges, 5)) return false;
+    gates[number(b, 0)] = (gate){true, number(b, 1), number(b, 2), number(b, 3), number(b, 4)};
+    return true;
+}
+
+static bool take_subck(const uint8_t *b) {
+    static const range ranges[] = {{0, 1}, {0, 4095}, {0, 4095}, {0, 4095}, {0, 4095}};
+    if (!within(b, ranges, 5)) return false;
+    the_subck = (subck){true, number(b, 0), number(b, 1), number(b, 2), number(b, 3), number(b, 4)};
+    return true;
+}
+
+static bool take_shutter(const uint8_t *b) {
+    static const range ranges[] = {{0, 1}, {0, 1}, {0, 4095}, {0, 4095}, {0, 4095}, {0, 4095}};
+    if (!within(b, ranges, 6)) return false;
+    shutters[number(b, 0)] = (shutter){true, number(b, 1), number(b, 2), number(b, 3), number(b, 4), number(b, 5)};
+    return true;
+}
+
+static bool length_allowed(unsigned kind, unsigned length) {
+    static const unsigned lengths[] = {0, 4, 14, 0, 10, 10, 12};
+    return kind == 3 ? length >= 16 && length <= 52 && length % 6 == 4 : length == lengths[kind];
+}
+
+static bool take(unsigned kind, const uint8_t *body, unsigned length) {
+    switch (kind) {
+    case 1: return take_register(body);
+    case 2: return take_sequence(body);
+    case 3: return take_field(body, length);
+    case 4: return take_gate(body);
+    case 5: return take_subck(body);
+    default: return take_shutter(body);
+    }
+}
+
+static void read_script(const uint8_t *script, size_t n) {
+    if (n > SCRIPT_MOST) refuse(1, 0);
+    for (size_t at = 0; at < n;) {
+        if (n - at < 4) refuse(2, at);
+        unsigned length = number(script + at, 0), kind = number(script + at, 1);
+        if (kind < 1 || kind > 6) refuse(3, at);
+        if (!length_allowed(kind, length)) refuse(4, at);
+        if (n - at - 4 < length) refuse(2, at);
+        if (!take(kind, script + at + 4, length)) refuse(5, at);
+        at += 4 + length;
+    }
+}
+
+// The rules over the profile, in their order.
+
+static uint16_t half(int k, int i) { return registers[12 * k + i / 2] >> 12 * (i % 2) & 4095; }
+
+static pattern pattern_of(int k) {
+    pattern a = {half(k, 0), half(k, 1), {0}, {0}};
+    for (int i = 0; i < 18; i++) a.toggles[i] = half(k, 2 + i);
+    for (int i = 0; i < 4; i++) a.pairs[i] = half(k, 20 + i);
+    return a;
+}
+
+static unsigned end_of(int i) { return i + 1 < the_field.n ? the_field.regions[i + 1].first : the_field.lines; }
+
+static const region *region_of(unsigned line) {
+    int i = 0;
+    while (end_of(i) <= line) i++;
+    return &the_field.regions[i];
+}
+
+static unsigned line_length(unsigned line) {
+    return line + 1u == the_field.lines ? the_field.last : sequences[region_of(line)->sequence].length;
+}
+
+static uint64_t region_size(int i) {
+    uint64_t lines = end_of(i) - the_field.regions[i].first, length = sequences[the_field.regions[i].sequence].length;
+    return end_of(i) == the_field.lines ? (lines - 1) * length + the_field.last : lines * length;
+}
+
+// Rule 10, where toggles from `unused` on are unused.
+static bool in_order(const pattern *a, uint16_t unused) {
+    for (int k = 0; k < 6; k++)
+        for (int i = 3 * k + 1; i < 3 * k + 3; i++)
+            if (a->toggles[i] < unused && a->toggles[i - 1] >= a->toggles[i]) return false;
+    return true;
+}
+
+static uint16_t highest_used(const pattern *a) {
+    uint16_t most = 0;
+    for (int i = 0; i < 18; i++)
+        if (a->toggles[i] != UNUSED && a->toggles[i] > most) most = a->toggles[i];
+    return most;
+}
+
+static bool masks_allowed(const pattern *a, unsigned mask) {
+    if ((mask & 1) && a->pairs[0] >= a->pairs[1]) return false;
+    if ((mask & 2) && a->pairs[2] >= a->pairs[3]) return false;
+    return mask != 3 || a->pairs[1] <= a->pairs[2];
+}
+
+static void check_region(int i) {
+    const region *r = &the_field.regions[i];
+    const sequence *s = &sequences[r->sequence];
+    if (!s->given) refuse(8, i);
+    pattern a = pattern_of(s->pattern);
+    if (a.length == 0) refuse(9, i);
+    if (!in_order(&a, r->mode == MULTIPLIER ? UNUSED : a.length)) refuse(10, i);
+    if (r->mode == PLAIN) {
+        if (!masks_allowed(&a, s->mask)) refuse(11, i);
+        return;
+    }
+    if (s->mask != 0) refuse(11, i);
+    if (s->counts[0] != s->counts[1] || (r->mode == MULTIPLIER && s->counts[0] != highest_used(&a))) refuse(12, i);
+    if (s->start + (uint64_t)s->counts[0] * a.length > region_size(i)) refuse(13, i);
+}
+
+static bool second_allowed(unsigned line) {
+    const region *r = region_of(line);
+    const sequence *s = &sequences[r->sequence];
+    pattern a = pattern_of(the_field.second);
+    unsigned repetitions = s->counts[line % 2];
+    return r->mode == PLAIN && a.length != 0 && in_order(&a, UNUSED) && a.length < line_length(line) &&
+           (repetitions == 0 || s->start + repetitions * half(s->pattern, 1) <= a.length);
+}
+
+static bool exists(unsigned line, unsigned pixel) { return line < the_field.lines && pixel < line_length(line); }
+
+static void check_rules(void) {
+    const field *f = &the_field;
+    if (!f->given) refuse(6, 0);
+    for (int i = 0; i < f->n; i++) {
+        uint16_t first = f->regions[i].first;
+        if ((i == 0 ? first != 0 : first <= f->regions[i - 1].first) || first >= f->lines) refuse(7, i);
+    }
+    for (int i = 0; i < f->n; i++) check_region(i);
+    if (f->gate >= f->lines || (f->second != NO_SECOND && !second_allowed(f->gate))) refuse(14, 0);
+    for (int i = 0; i < 5; i++) {
+        const gate *g = &gates[i];
+        if (g->given && g->on && (g->toggle1 >= g->toggle2 || g->toggle2 >= line_length(f->gate))) refuse(15, i);
+    }
+    if (the_subck.given && (the_subck.toggle1 >= the_subck.toggle2 || the_subck.suppressed == 0)) refuse(16, 0);
+    for (int i = 0; i < 2; i++) {
+        const shutter *s = &shutters[i];
+        if (s->given && (!exists(s->on_line, s->on_pixel) || !exists(s->off_line, s->off_pixel) || s->on_line > s->off_line ||
+                         (s->on_line == s->off_line && s->on_pixel >= s->off_pixel)))
+            refuse(17, i);
+    }
+}
+
+// The word: a line's numbers, made once a line, and the levels at a pixel.
+
+typedef struct { bool on; uint16_t freeze, resume; } mask;
+typedef struct { bool acts; uint16_t level, toggle1, toggle2; } pulse;
+typedef struct { uint16_t level, from, to; } span;
+
+typedef struct {
+    enum mode mode;
+    pattern pattern;
+    uint16_t start;
+    uint32_t origin;
+    uint16_t repetitions;
+    mask mask1, mask2;
+    bool second_acts;
+    pattern second;
+    pulse gates[5], subck;
+    span mshut, strobe;
+} line;
+
+// The second pattern: from the pixel equal to its length, a flip for each used toggle at or below pixel - length.
+static unsigned second_level(const pattern *a, int k, uint64_t p) {
+    unsigned level = a->levels >> k & 1;
+    uint64_t t = p - a->length;
+    for (int i = 0; i < 3; i++) {
+        uint16_t x = a->toggles[3 * k + i];
+        if (x != UNUSED && x <= t) level ^= 1;
+    }
+    return level;
+}
+
+// The first pattern: plain from the line's first pixel, sweep and multiplier from the region's.
+static unsigned first_level(const line *l, int k, uint64_t p) {
+    const pattern *a = &l->pattern;
+    unsigned level = a->levels >> k & 1;
+    uint64_t q = l->mode == PLAIN ? p : l->origin + p;
+    if (q < l->start) return level;
+    uint64_t t = q - l->start;
+    if (l->mode == MULTIPLIER) {
+        for (int i = 0; i < 3; i++) {
+            uint16_t x = a->toggles[3 * k + i];
+            if (x != UNUSED && (uint64_t)x * a->length <= t) level ^= 1;
+        }
+    } else if (t < (uint64_t)l->repetitions * a->length) {
+        uint64_t u = t % a->length;
+        for (int i = 0; i < 3; i++) {
+            uint16_t x = a->toggles[3 * k + i];
+            if (x < a->length && x <= u) level ^= 1;
+        }
+    }
+    return level;
+}
+
+static unsigned v_level(const line *l, int k, uint64_t p) {
+    return l->second_acts && l->second.length <= p ? second_level(&l->second, k, p) : first_level(l, k, p);
+}
+
+static bool frozen(const mask *m, uint64_t p) { return m->on && m->freeze <= p && p < m->resume; }
+
+static unsigned pulse_level(const pulse *g, uint64_t p) {
+    return (g->level + (g->acts ? (g->toggle1 <= p) + (g->toggle2 <= p) : 0)) & 1;
+}
+
+static unsigned span_level(const span *s, uint64_t p) { return (s->level + !(s->from <= p && p < s->to)) & 1; }
+
+static uint16_t word_of(const line *l, uint64_t p) {
+    uint64_t q = frozen(&l->mask1, p) ? l->mask1.freeze : frozen(&l->mask2, p) ? l->mask2.freeze : p;
+    unsigned w = 0;
+    for (int k = 0; k < 6; k++) w |= v_level(l, k, q) << k;
+    for (int k = 0; k < 5; k++) w |= pulse_level(&l->gates[k], p) << (6 + k);
+    return w | pulse_level(&l->subck, p) << 11 | span_level(&l->mshut, p) << 12 | span_level(&l->strobe, p) << 13;
+}
+
+// The part of line n in which a shutter is active; an absent one is at level 0.
+static span span_of(const shutter *s, unsigned n) {
+    if (!s->given) return (span){1, 0, 0};
+    if (n < s->on_line || n > s->off_line) return (span){s->level, 0, 0};
+    return (span){s->level, n == s->on_line ? s->on_pixel : 0, n == s->off_line ? s->off_pixel : 4095};
+}
+
+// An absent gate or SUBCK is at level 1.
+static line line_of(const region *r, unsigned n) {
+    const sequence *s = &sequences[r->sequence];
+    const subck *c = &the_subck;
+    bool at_gate = n == the_field.gate;
+    unsigned subck_from = the_field.gate + c->suppressed;
+    line l = {.mode = r->mode, .pattern = pattern_of(s->pattern), .start = s->start, .repetitions = s->counts[n % 2]};
+    l.origin = (n - r->first) * s->length;
+    l.mask1 = (mask){s->mask & 1, l.pattern.pairs[0], l.pattern.pairs[1]};
+    l.mask2 = (mask){s->mask >> 1 & 1, l.pattern.pairs[2], l.pattern.pairs[3]};
+    l.second_acts = at_gate && the_field.second != NO_SECOND;
+    if (l.second_acts) l.second = pattern_of(the_field.second);
+    for (int k = 0; k < 5; k++) {
+        const gate *g = &gates[k];
+        l.gates[k] = g->given ? (pulse){at_gate && g->on, g->level, g->toggle1, g->toggle2} : (pulse){false, 1, 0, 0};
+    }
+    l.subck = c->given ? (pulse){subck_from <= n && n < subck_from + c->count, c->level, c->toggle1, c->toggle2}
+                       : (pulse){false, 1, 0, 0};
+    l.mshut = span_of(&shutters[0], n);
+    l.strobe = span_of(&shutters[1], n);
+    return l;
+}
+
+// The hold list: steps past the room are only counted.
+
+static uint32_t counts[ROOM];
+static uint16_t words[ROOM];
+static unsigned steps;
+
+static void close_step(uint32_t count, uint16_t word) {
+    if (steps < ROOM) {
+        counts[steps] = count;
+        words[steps] = word;
+    }
+    steps++;
+}
+
+// Makes the list, and gives the number of pixels.
+static uint32_t compile(void) {
+    uint32_t pixels = 0, count = 0;
+    uint16_t word = 0;
+    for (int i = 0; i < the_field.n; i++)
+        for (unsigned n = the_field.regions[i].first; n < end_of(i); n++) {
+            line l = line_of(&the_field.regions[i], n);
+            unsigned length = line_length(n);
+            for (unsigned p = 0; p < length; p++) {
+                uint16_t w = word_of(&l, p);
+                if (w != word && count != 0) {
+                    close_step(count, word);
+                    count = 0;
+                }
+                word = w;
+                count++;
+            }
+            pixels += length;
+        }
+    close_step(count, word);
+    return pixels;
+}
+
+int main(void) {
+    static uint8_t script[SCRIPT_MOST + 1];
+    read_script(script, fread(script, 1, sizeof script, stdin));
+    check_rules();
+    uint32_t pixels = compile();
+    if (steps > ROOM) refuse(18, steps);
+    printf("steps %u pixels %u\n", steps, (unsigned)pixels);
+    for (unsigned i = 0; i < steps; i++) printf("%u %04X\n", (unsigned)counts[i], words[i]);
+    return 0;
+}
