@@ -3,16 +3,9 @@ ghost use mathlib.Core.Path.{_≡_};
 ghost use Prim.Native.Nat.{_≤_};
 ghost use lib.ListN.{length, take};
 ghost use Rattle.holdlist.specs.Text.{printed};
-ghost use Rattle.booth.specs.Input.{Inside};
+use inlet::Input;
 use libc::STDERR_FILENO;
-use libc::STDIN_FILENO;
 use libc::STDOUT_FILENO;
-
-// What came from standard input.
-enum Input {
-    Bytes(usize),
-    Failed,
-}
 
 // One byte more than the longest script, so that a longer one is seen to be longer.
 fn script_room() -> [u8; 16385]
@@ -39,34 +32,6 @@ fn text_room() -> [u8; 65600]
     ensures { λ r. ⌜ 65600 ≡ length r ⌝ }
 {
     [0; 65600]
-}
-
-// Reads once: no bytes at the end of the input. A read that fails is not an end.
-fn read_some(room: &mut [u8]) -> Input
-    ensures { λ r. ⌜ Inside r (length (now (room .entry))) ⌝ }
-{
-    let got = libc::read(STDIN_FILENO, room);
-    if got < 0 {
-        return Input::Failed;
-    }
-    Input::Bytes(io::count(got, room))
-}
-
-// Reads until the input ends or the room is full.
-fn read_all(room: &mut [u8]) -> Input
-    ensures { λ r. ⌜ Inside r (length (now (room .entry))) ⌝ }
-{
-    let mut at: usize = 0;
-    while at < room.len() {
-        let Input::Bytes(n) = read_some(&mut room[at..]) else {
-            return Input::Failed;
-        };
-        if n == 0 {
-            return Input::Bytes(at);
-        }
-        at += n;
-    }
-    Input::Bytes(at)
 }
 
 // Puts what is printed for a script, and gives its length.
@@ -96,7 +61,7 @@ fn print_answer(script: &[u8]) {
 
 fn main() {
     let mut script = script_room();
-    match read_all(&mut script) {
+    match inlet::read_all(&mut script) {
         Input::Bytes(n) => print_answer(&script[..n]),
         Input::Failed => {
             io::write_all(STDERR_FILENO, b"booth: cannot read standard input\n");

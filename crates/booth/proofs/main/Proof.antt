@@ -2,7 +2,7 @@
 -- Assumes nothing.
 use mathlib.Core.Path.{sym}
 use lib.Seq.{length-take-le}
-use Rattle.booth.proofs.Inputs.{bytes-inside}
+use Rattle.inlet.proofs.Inputs.{bytes-inside}
 use borrow.Author.Needs.{needs}
 use native.Mathlib.Omega.{arith}
 use Rattle.booth.proofs.main.Statement.{statement}

@@ -6,9 +6,9 @@ use mathlib.Core.Path.{_≡_}
 use mathlib.Core.List.{List}
 use lib.ListN.{length, drop, length-take, length-drop}
 use borrow.Rule.Slice.PartMut.{midOf}
-use Rattle.booth.specs.declared.Input.{Input}
-use Rattle.booth.specs.declared.Input.the-variants.{Bytes}
-use Rattle.booth.specs.Input.{Inside}
+use Rattle.inlet.specs.declared.Input.{Input}
+use Rattle.inlet.specs.declared.Input.the-variants.{Bytes}
+use Rattle.inlet.specs.Input.{Inside}
 
 pub bytes-inside : {i : Input} {n k : ℕ} → Inside i k → i ≡ Bytes n → n ≤ k
 bytes-inside {i} {n} {k} h e = rw e at h

@@ -3,11 +3,11 @@
 use Prim.Native.Nat.{_-_, _≤_}
 use mathlib.Core.Path.{_≡_}
 use lib.ListN.{length}
-use Rattle.booth.proofs.Inputs.{bytes-after}
+use Rattle.inlet.proofs.Inputs.{bytes-after}
 use borrow.Author.Needs.{needs}
 use native.Mathlib.Omega.{arith}
-use Rattle.booth.proofs.read_all.Statement.{statement}
-use Rattle.booth.proofs.read_all.Tie as tie
+use Rattle.inlet.proofs.read_all.Statement.{statement}
+use Rattle.inlet.proofs.read_all.Tie as tie
 
 abbrev Inv-loop : tie.InvT-loop
 Inv-loop room₀ at₀ room at = (at ≤ length room) × (length room ≡ length room₀)
