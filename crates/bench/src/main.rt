@@ -6,7 +6,7 @@ use level::Line;
 use level::Mask;
 use level::Pulse;
 use level::Span;
-use profile::Mode;
+use profile::mode_of;
 use profile::pattern_of;
 ghost use Prim.Native.Nat.{_+_, _≤_, _<_};
 
@@ -46,16 +46,6 @@ fn numbers(text: &[u8]) -> [u16; 240] {
         i += 1;
     }
     n
-}
-
-fn mode_of(number: u16) -> Mode {
-    if number == 1 {
-        return Mode::Sweep;
-    }
-    if number == 2 {
-        return Mode::Multiplier;
-    }
-    Mode::Plain
 }
 
 fn pulse_at(n: [u16; 240], at: usize) -> Pulse

@@ -45,6 +45,9 @@ valueOf ds = valueAfter 0 ds
 abbrev pub hexDigit : ℕ → ℕ
 hexDigit d = cond (ltb d 10) (digit d) (55 + d)
 
+abbrev pub hex2 : ℕ → List ℕ
+hex2 b = hexDigit (b / 16) ∷ hexDigit (b % 16) ∷ []
+
 abbrev pub hex4 : ℕ → List ℕ
 hex4 w = hexDigit (w / 4096 % 16) ∷ hexDigit (w / 256 % 16) ∷ hexDigit (w / 16 % 16) ∷ hexDigit (w % 16) ∷ []
 

@@ -9,8 +9,11 @@ mod text;
 
 pub use compiling::compile;
 pub use playing::play;
+pub use text::put;
+pub use text::put_byte;
 pub use text::put_decimal;
 pub use text::put_head_line;
+pub use text::put_hex2;
 pub use text::put_hex4;
 pub use text::put_listing;
 pub use text::put_refused_line;

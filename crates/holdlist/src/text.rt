@@ -4,11 +4,12 @@ ghost use mathlib.Core.List.{[], _∷_};
 ghost use Prim.Native.Nat.{_+_, _*_, _<_, _≤_};
 ghost use lib.ListN.{length, drop};
 ghost use Rattle.holdlist.specs.Compile.{roomOf};
-ghost use Rattle.holdlist.specs.Text.{digit as digitText, decimal, hexDigit, hex4, headLine, stepLine, refusedLine, listing, told, Puts};
+ghost use Rattle.holdlist.specs.Text.{digit as digitText, decimal, hexDigit, hex2, hex4, headLine, stepLine, refusedLine, listing, told, Puts};
 use crate::Compiled;
 use crate::steps::least;
 
-fn put_byte(out: &mut [u8], at: usize, byte: u8) -> usize
+// One byte.
+pub fn put_byte(out: &mut [u8], at: usize, byte: u8) -> usize
     ensures { λ r. ⌜ Puts (byte ∷ []) (now (out .entry)) at r (now (out .exit)) ⌝ }
 {
     if at < out.len() {
@@ -19,7 +20,8 @@ fn put_byte(out: &mut [u8], at: usize, byte: u8) -> usize
     }
 }
 
-fn put(out: &mut [u8], at: usize, bytes: &[u8]) -> usize
+// Bytes one after another.
+pub fn put(out: &mut [u8], at: usize, bytes: &[u8]) -> usize
     ensures { λ r. ⌜ Puts (now (bytes .entry)) (now (out .entry)) at r (now (out .exit)) ⌝ }
 {
     let mut to = at;
@@ -79,6 +81,14 @@ pub fn put_hex4(out: &mut [u8], at: usize, word: u16) -> usize
         hex_digit(word / 16 % 16),
         hex_digit(word % 16),
     ];
+    put(out, at, &digits)
+}
+
+pub fn put_hex2(out: &mut [u8], at: usize, byte: u8) -> usize
+    ensures { λ r. ⌜ Puts (hex2 byte) (now (out .entry)) at r (now (out .exit)) ⌝ }
+{
+    let n = byte as u16;
+    let digits = [hex_digit(n / 16), hex_digit(n % 16)];
     put(out, at, &digits)
 }
 

@@ -27,6 +27,8 @@ pub use records::read;
 pub use rules::check;
 pub use values::accept;
 pub use values::empty;
+pub use values::mode_number;
+pub use values::mode_of;
 pub use values::refuse;
 pub use writing::write;
 

@@ -26,7 +26,7 @@ ghost use Rattle.profile.specs.Values.{
 };
 
 // The number of a mode.
-pub(crate) fn mode_number(mode: Mode) -> u16
+pub fn mode_number(mode: Mode) -> u16
     ensures { λ r. ⌜ r ≡ modeNumber mode ⌝ }
 {
     match mode {
@@ -37,7 +37,7 @@ pub(crate) fn mode_number(mode: Mode) -> u16
 }
 
 // The mode of a number that a record can carry.
-pub(crate) fn mode_of(n: u16) -> Mode
+pub fn mode_of(n: u16) -> Mode
     ensures { λ r. ⌜ r ≡ modeOf n ⌝ }
 {
     match n {
