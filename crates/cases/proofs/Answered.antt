@@ -1,0 +1,96 @@
+-- What the drivers put is what the definitions say: each law joins what an entry point ensures to the text of its kind.
+-- Assumes nothing.
+use Prim.Native.Nat.{ℕ, _+_, _*_, _≤_}
+use mathlib.Core.Path.{_≡_, refl, sym, ap}
+use mathlib.Core.List.{List}
+use lib.Dec.{eqb}
+use native.Mathlib.Omega.{arith}
+use lib.ListN.{length, take, drop, length-take}
+use lib.Seq.{length-take-le}
+use borrow.Author.Tests.{ne-eqb}
+use Rattle.profile.specs.Rules.{checkProfile}
+use Rattle.profile.specs.Script.{readScript}
+use Rattle.profile.specs.Writing.{writeAnswer, writeLeaves}
+use Rattle.level.specs.Place.{levelAnswer, locateAnswer}
+use Rattle.holdlist.specs.Compile.{roomOf, compileAnswer, compileCounts, compileWords}
+use Rattle.holdlist.specs.Play.{playAnswer}
+use Rattle.profile.specs.declared.Profile.{Profile}
+use Rattle.profile.specs.declared.Written.{Written}
+use Rattle.holdlist.specs.declared.Compiled.{Compiled}
+use Rattle.cases.specs.Raw.{eightAt, numbersFrom, foursFrom, rawProfile}
+use Rattle.cases.specs.Kinds.{
+  verdictText,
+  readText,
+  levelText,
+  locateText,
+  writeText,
+  writeOf,
+  compileText,
+  compileOf,
+  compileLines,
+  lengthAt,
+  playText,
+  playLines,
+  linesOf,
+}
+
+pub write-told :
+    (p : Profile) (s s′ : List ℕ) (r : Written) → r ≡ writeAnswer p (length s) → s′ ≡ writeLeaves p s → writeText r s′ ≡ writeOf p s
+unfolding writeOf
+write-told p s s′ r e l = rw (e, l)
+
+pub compile-told :
+    (p : Profile) (cs ws cs′ ws′ : List ℕ) (r : Compiled) →
+    r ≡ compileAnswer p (roomOf cs ws) → cs′ ≡ compileCounts p (roomOf cs ws) cs → ws′ ≡ compileWords p (roomOf cs ws) ws →
+    compileText r cs′ ws′ ≡ compileOf p cs ws
+unfolding compileOf
+compile-told p cs ws cs′ ws′ r e l m = rw (e, l, m)
+
+-- lists that were filled from a payload
+module _ (b cs ws cs′ ws′ : List ℕ) (n : ℕ) where
+  pub compile-filled :
+      (p : Profile) → p ≡ rawProfile b → cs′ ≡ foursFrom b 768 (length cs) → ws′ ≡ numbersFrom b (768 + 4 * n) (length ws) →
+      n ≡ length cs → compileOf p cs′ ws′ ≡ compileLines (length cs) (length ws) b
+  unfolding compileLines
+  compile-filled p ep ec ew en = rw (ep, ec, ew, en)
+
+  pub play-filled :
+      (u k : ℕ) → u ≡ eightAt b 8 → k ≡ eightAt b 16 → cs′ ≡ foursFrom b 24 (length cs) → ws′ ≡ numbersFrom b (24 + 4 * n) (length ws) →
+      n ≡ length cs → playText (playAnswer cs′ ws′ u k) ≡ playLines (length cs) (length ws) b
+  unfolding playLines
+  play-filled u k eu ek ec ew en = rw (eu, ek, ec, ew, en)
+
+pub taken-short : (n k : ℕ) (l : List ℕ) → n ≤ k → length (take n l) ≤ k
+taken-short n k l h = omega (arith, length-take n l)
+
+-- parts of two lists, as long as is asked
+pub taken-lines :
+    (f : ℕ → ℕ → List ℕ) (l m : List ℕ) (c w c′ w′ : ℕ) →
+    c ≤ length l → w ≤ length m → c ≡ c′ → w ≡ w′ → f (length (take c l)) (length (take w m)) ≡ f c′ w′
+taken-lines f l m c w c′ w′ hc hw ec ew = rw (length-take-le c l hc, length-take-le w m hw, ec, ew)
+
+-- each kind has its lines
+module _ (kind : ℕ) (b : List ℕ) where
+  pub read-kind : kind ≡ 82 → readText (readScript b) ≡ linesOf kind b
+  unfolding linesOf
+  read-kind e = rw e
+
+  pub check-kind : kind ≡ 67 → verdictText (checkProfile (rawProfile b)) ≡ linesOf kind b
+  unfolding linesOf
+  check-kind e = rw e
+
+  pub write-kind : kind ≡ 87 → writeOf (rawProfile b) (drop 760 b) ≡ linesOf kind b
+  unfolding linesOf
+  write-kind e = rw e
+
+  pub level-kind : kind ≡ 76 → levelText (levelAnswer (rawProfile b) (eightAt b 760) (eightAt b 768)) ≡ linesOf kind b
+  unfolding linesOf
+  level-kind e = rw e
+
+  pub locate-kind : kind ≡ 78 → locateText (locateAnswer (rawProfile b) (eightAt b 760)) ≡ linesOf kind b
+  unfolding linesOf
+  locate-kind e = rw e
+
+  pub compile-kind : kind ≡ 75 → compileLines (lengthAt b 760) (lengthAt b 764) b ≡ linesOf kind b
+  unfolding linesOf
+  compile-kind e = rw e

@@ -1,0 +1,5 @@
+pub mod Filling
+pub mod Chunked
+pub mod Parts
+pub mod Answered
+pub mod Inputs

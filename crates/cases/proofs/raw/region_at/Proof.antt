@@ -1,0 +1,38 @@
+-- Each number stands at its place.
+-- Assumes nothing.
+use borrow.Author.Needs.{needs}
+use Rattle.cases.proofs.raw.region_at.Statement.{statement}
+use Rattle.cases.proofs.raw.region_at.Tie as tie
+
+number-at-requires : tie.Need-number-at-requires
+number-at-requires c κs = search needs
+
+add-number-at : tie.Need-add-number-at
+add-number-at c = search needs
+
+number-at-requires-2 : tie.Need-number-at-requires-2
+number-at-requires-2 c κs = search needs
+
+add-number-at-2 : tie.Need-add-number-at-2
+add-number-at-2 c = search needs
+
+number-at-requires-3 : tie.Need-number-at-requires-3
+number-at-requires-3 c κs = search needs
+
+mode-of-requires : tie.Need-mode-of-requires
+mode-of-requires c κs = search needs
+
+returns : tie.Need-returns
+returns c = cc
+
+pub region-at-spec : {M : Type 1} → statement M
+region-at-spec =
+    tie.close
+    (tie.spec
+    number-at-requires
+    add-number-at
+    number-at-requires-2
+    add-number-at-2
+    number-at-requires-3
+    mode-of-requires
+    returns)

@@ -1,0 +1,81 @@
+-- What is printed for a payload of each kind: the answer of its entry point, which the crates below define, as lines of text.
+-- Assumes nothing.
+use Prim.Native.Nat.{ℕ, _+_, _*_, min}
+use mathlib.Core.List.{List, [], _∷_, _++_}
+use mathlib.Core.Bool.{cond}
+use lib.Dec.{eqb}
+use lib.ListN.{length, drop}
+use Rattle.profile.specs.Rules.{checkProfile}
+use Rattle.profile.specs.Script.{readScript}
+use Rattle.profile.specs.Writing.{writeAnswer, writeLeaves}
+use Rattle.level.specs.Place.{levelAnswer, locateAnswer}
+use Rattle.holdlist.specs.Compile.{roomOf, compileAnswer, compileCounts, compileWords}
+use Rattle.holdlist.specs.Play.{playAnswer}
+use Rattle.profile.specs.declared.ReadAnswer.{ReadAnswer}
+use Rattle.profile.specs.declared.Verdict.{Verdict}
+use Rattle.profile.specs.declared.Written.{Written}
+use Rattle.level.specs.declared.LevelAnswer.{LevelAnswer}
+use Rattle.level.specs.declared.Located.{Located}
+use Rattle.holdlist.specs.declared.Compiled.{Compiled}
+use Rattle.holdlist.specs.declared.Played.{Played}
+use Rattle.profile.specs.declared.Profile.{Profile}
+use Rattle.cases.specs.Raw.{fourAt, eightAt, numbersFrom, foursFrom, rawProfile}
+use Rattle.cases.specs.Answer.{after, headText, hexLine, joinedLine, profileLine}
+
+-- ---- lines of an answer
+
+unfoldable pub verdictText : Verdict → List ℕ
+verdictText v = headText v ++ (10 ∷ [])
+
+unfoldable pub readText : ReadAnswer → List ℕ
+readText a = verdictText (a .verdict) ++ profileLine (a .profile)
+
+unfoldable pub levelText : LevelAnswer → List ℕ
+levelText a = headText (a .verdict) ++ after (a .word) ++ (10 ∷ [])
+
+unfoldable pub locateText : Located → List ℕ
+locateText a = headText (a .verdict) ++ after (a .line) ++ after (a .pixel) ++ (10 ∷ [])
+
+-- beside the slice at exit
+unfoldable pub writeText : Written → List ℕ → List ℕ
+writeText a s = headText (a .verdict) ++ after (a .length) ++ (10 ∷ []) ++ hexLine s
+
+-- beside the lists at exit
+unfoldable pub compileText : Compiled → List ℕ → List ℕ → List ℕ
+compileText a cs ws =
+    headText (a .verdict) ++ after (a .steps) ++ after (a .pixels) ++ (10 ∷ []) ++ joinedLine cs ++ joinedLine ws
+
+unfoldable pub playText : Played → List ℕ
+playText a = headText (a .verdict) ++ after (a .word) ++ (10 ∷ [])
+
+-- ---- answers to a payload
+
+-- of a profile and the slice that is lent
+unfoldable pub writeOf : Profile → List ℕ → List ℕ
+writeOf p s = writeText (writeAnswer p (length s)) (writeLeaves p s)
+
+-- of a profile and the two lists that are lent
+unfoldable pub compileOf : Profile → List ℕ → List ℕ → List ℕ
+compileOf p cs ws =
+    compileText (compileAnswer p (roomOf cs ws)) (compileCounts p (roomOf cs ws) cs) (compileWords p (roomOf cs ws) ws)
+
+-- "A list has at most 4,096 entries"
+abbrev pub lengthAt : List ℕ → ℕ → ℕ
+lengthAt b at = min 4096 (fourAt b at)
+
+-- c counts from a place on, and w words behind them
+unfoldable pub compileLines : ℕ → ℕ → List ℕ → List ℕ
+compileLines c w b = compileOf (rawProfile b) (foursFrom b 768 c) (numbersFrom b (768 + 4 * c) w)
+
+unfoldable pub playLines : ℕ → ℕ → List ℕ → List ℕ
+playLines c w b = playText (playAnswer (foursFrom b 24 c) (numbersFrom b (24 + 4 * c) w) (eightAt b 8) (eightAt b 16))
+
+-- R, C, W, L, N, K, P
+unfoldable pub linesOf : ℕ → List ℕ → List ℕ
+linesOf kind b =
+    cond (eqb kind 82) (readText (readScript b))
+    (cond (eqb kind 67) (verdictText (checkProfile (rawProfile b)))
+    (cond (eqb kind 87) (writeOf (rawProfile b) (drop 760 b))
+    (cond (eqb kind 76) (levelText (levelAnswer (rawProfile b) (eightAt b 760) (eightAt b 768)))
+    (cond (eqb kind 78) (locateText (locateAnswer (rawProfile b) (eightAt b 760)))
+    (cond (eqb kind 75) (compileLines (lengthAt b 760) (lengthAt b 764) b) (playLines (lengthAt b 0) (lengthAt b 4) b))))))

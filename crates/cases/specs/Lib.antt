@@ -1,0 +1,4 @@
+pub mod Input
+pub mod Raw
+pub mod Answer
+pub mod Kinds

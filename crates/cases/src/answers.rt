@@ -1,0 +1,274 @@
+// The answer to one case: what an entry point gives for a payload, as text.
+use crate::raw::eight_at;
+use crate::raw::fill_fours;
+use crate::raw::fill_numbers;
+use crate::raw::has_lists;
+use crate::raw::is_raw;
+use crate::raw::length_at;
+use crate::raw::raw_profile;
+use crate::text::put_after;
+use crate::text::put_byte;
+use crate::text::put_case_line;
+use crate::text::put_counts;
+use crate::text::put_hex_line;
+use crate::text::put_profile;
+use crate::text::put_verdict;
+use crate::text::put_words;
+use profile::Profile;
+use profile::Verdict;
+ghost use mathlib.Core.Path.{_≡_};
+ghost use mathlib.Core.List.{_++_};
+ghost use Prim.Native.Nat.{_≤_, min};
+ghost use lib.ListN.{length, drop};
+ghost use Rattle.profile.specs.Rules.{checkProfile};
+ghost use Rattle.profile.specs.Script.{readScript};
+ghost use Rattle.level.specs.Place.{levelAnswer, locateAnswer};
+ghost use Rattle.holdlist.specs.Play.{playAnswer};
+ghost use Rattle.holdlist.specs.Text.{Puts};
+ghost use Rattle.cases.specs.Raw.{rawProfile, eightAt};
+ghost use Rattle.cases.specs.Answer.{caseLine};
+ghost use Rattle.cases.specs.Kinds.{
+  verdictText,
+  readText,
+  levelText,
+  locateText,
+  writeOf,
+  lengthAt,
+  compileOf,
+  compileLines,
+  playText,
+  playLines,
+  linesOf,
+};
+
+// Room for 4,096 steps.
+fn count_room() -> [u32; 4096]
+    ensures { λ r. ⌜ 4096 ≡ length r ⌝ }
+{
+    [0; 4096]
+}
+
+fn word_room() -> [u16; 4096]
+    ensures { λ r. ⌜ 4096 ≡ length r ⌝ }
+{
+    [0; 4096]
+}
+
+fn put_verdict_line(out: &mut [u8], at: usize, verdict: Verdict) -> usize
+    ensures { λ r. ⌜ Puts (verdictText verdict) (now (out .entry)) at r (now (out .exit)) ⌝ }
+{
+    let a = put_verdict(out, at, verdict);
+    put_byte(out, a, 10)
+}
+
+fn put_read(out: &mut [u8], at: usize, payload: &[u8]) -> usize
+    ensures { λ r. ⌜ Puts (readText (readScript (now (payload .entry)))) (now (out .entry)) at r (now (out .exit)) ⌝ }
+{
+    let answer = profile::read(payload);
+    let verdict = answer.verdict;
+    let profile = answer.profile;
+    let a = put_verdict_line(out, at, verdict);
+    put_profile(out, a, profile)
+}
+
+fn put_check(out: &mut [u8], at: usize, payload: &[u8]) -> usize
+    ensures { λ r. ⌜ Puts (verdictText (checkProfile (rawProfile (now (payload .entry))))) (now (out .entry)) at r (now (out .exit)) ⌝ }
+{
+    let profile = raw_profile(payload);
+    let verdict = profile::check(profile);
+    put_verdict_line(out, at, verdict)
+}
+
+// Where a raw profile ends, or the payload where it is shorter.
+fn raw_end(payload: &[u8]) -> usize
+    ensures { λ r. ⌜ r ≡ min 760 (length (now (payload .entry))) ⌝ }
+{
+    if payload.len() < 760 {
+        payload.len()
+    } else {
+        760
+    }
+}
+
+fn put_written(out: &mut [u8], at: usize, profile: Profile, slice: &mut [u8]) -> usize
+    ensures { λ r. ⌜ Puts (writeOf profile (now (slice .entry))) (now (out .entry)) at r (now (out .exit)) ⌝ }
+{
+    let written = profile::write(profile, slice);
+    let verdict = written.verdict;
+    let a = put_verdict(out, at, verdict);
+    let b = put_after(out, a, written.length as u64);
+    let c = put_byte(out, b, 10);
+    put_hex_line(out, c, slice)
+}
+
+// The slice that is lent is the payload's part after the raw profile.
+fn put_write(out: &mut [u8], at: usize, payload: &mut [u8]) -> usize
+    ensures { λ r. ⌜ Puts (writeOf (rawProfile (now (payload .entry))) (drop 760 (now (payload .entry)))) (now (out .entry)) at r (now (out .exit)) ⌝ }
+{
+    let profile = raw_profile(payload);
+    let from = raw_end(payload);
+    put_written(out, at, profile, &mut payload[from..])
+}
+
+fn put_level(out: &mut [u8], at: usize, payload: &[u8]) -> usize
+    ensures { λ r. ⌜ Puts (levelText (levelAnswer (rawProfile (now (payload .entry))) (eightAt (now (payload .entry)) 760) (eightAt (now (payload .entry)) 768))) (now (out .entry)) at r (now (out .exit)) ⌝ }
+{
+    let line = eight_at(payload, 760);
+    let pixel = eight_at(payload, 768);
+    let profile = raw_profile(payload);
+    let answer = level::level(profile, line, pixel);
+    let verdict = answer.verdict;
+    let a = put_verdict(out, at, verdict);
+    let b = put_after(out, a, answer.word as u64);
+    put_byte(out, b, 10)
+}
+
+fn put_locate(out: &mut [u8], at: usize, payload: &[u8]) -> usize
+    ensures { λ r. ⌜ Puts (locateText (locateAnswer (rawProfile (now (payload .entry))) (eightAt (now (payload .entry)) 760))) (now (out .entry)) at r (now (out .exit)) ⌝ }
+{
+    let n = eight_at(payload, 760);
+    let profile = raw_profile(payload);
+    let located = level::locate(profile, n);
+    let verdict = located.verdict;
+    let a = put_verdict(out, at, verdict);
+    let b = put_after(out, a, located.line);
+    let c = put_after(out, b, located.pixel);
+    put_byte(out, c, 10)
+}
+
+fn put_compiled(
+    out: &mut [u8],
+    at: usize,
+    profile: Profile,
+    counts: &mut [u32],
+    words: &mut [u16],
+) -> usize
+    ensures { λ r. ⌜ Puts (compileOf profile (now (counts .entry)) (now (words .entry))) (now (out .entry)) at r (now (out .exit)) ⌝ }
+{
+    let compiled = holdlist::compile(profile, counts, words);
+    let verdict = compiled.verdict;
+    let a = put_verdict(out, at, verdict);
+    let b = put_after(out, a, compiled.steps as u64);
+    let c = put_after(out, b, compiled.pixels);
+    let d = put_byte(out, c, 10);
+    let e = put_counts(out, d, counts);
+    put_words(out, e, words)
+}
+
+// Fills the lists from the payload and compiles into them.
+fn compile_into(
+    out: &mut [u8],
+    at: usize,
+    payload: &[u8],
+    counts: &mut [u32],
+    words: &mut [u16],
+) -> usize
+    requires { ⌜ (length (now counts) ≤ 4096) × (length (now words) ≤ 4096) ⌝ }
+    ensures { λ r. ⌜ Puts (compileLines (length (now (counts .entry))) (length (now (words .entry))) (now (payload .entry))) (now (out .entry)) at r (now (out .exit)) ⌝ }
+{
+    let profile = raw_profile(payload);
+    fill_fours(counts, payload, 768);
+    fill_numbers(words, payload, 768 + 4 * counts.len());
+    put_compiled(out, at, profile, counts, words)
+}
+
+fn put_compile(out: &mut [u8], at: usize, payload: &[u8]) -> usize
+    ensures { λ r. ⌜ Puts (compileLines (lengthAt (now (payload .entry)) 760) (lengthAt (now (payload .entry)) 764) (now (payload .entry))) (now (out .entry)) at r (now (out .exit)) ⌝ }
+{
+    let mut counts = count_room();
+    let mut words = word_room();
+    let c = length_at(payload, 760);
+    let w = length_at(payload, 764);
+    compile_into(out, at, payload, &mut counts[..c], &mut words[..w])
+}
+
+fn put_played(
+    out: &mut [u8],
+    at: usize,
+    counts: &[u32],
+    words: &[u16],
+    used: u64,
+    position: u64,
+) -> usize
+    ensures { λ r. ⌜ Puts (playText (playAnswer (now (counts .entry)) (now (words .entry)) used position)) (now (out .entry)) at r (now (out .exit)) ⌝ }
+{
+    let played = holdlist::play(counts, words, used as usize, position);
+    let verdict = played.verdict;
+    let a = put_verdict(out, at, verdict);
+    let b = put_after(out, a, played.word as u64);
+    put_byte(out, b, 10)
+}
+
+// Fills the lists from the payload and plays them.
+fn play_from(
+    out: &mut [u8],
+    at: usize,
+    payload: &[u8],
+    counts: &mut [u32],
+    words: &mut [u16],
+) -> usize
+    requires { ⌜ (length (now counts) ≤ 4096) × (length (now words) ≤ 4096) ⌝ }
+    ensures { λ r. ⌜ Puts (playLines (length (now (counts .entry))) (length (now (words .entry))) (now (payload .entry))) (now (out .entry)) at r (now (out .exit)) ⌝ }
+{
+    let used = eight_at(payload, 8);
+    let position = eight_at(payload, 16);
+    fill_fours(counts, payload, 24);
+    fill_numbers(words, payload, 24 + 4 * counts.len());
+    put_played(out, at, counts, words, used, position)
+}
+
+fn put_play(out: &mut [u8], at: usize, payload: &[u8]) -> usize
+    ensures { λ r. ⌜ Puts (playLines (lengthAt (now (payload .entry)) 0) (lengthAt (now (payload .entry)) 4) (now (payload .entry))) (now (out .entry)) at r (now (out .exit)) ⌝ }
+{
+    let mut counts = count_room();
+    let mut words = word_room();
+    let c = length_at(payload, 0);
+    let w = length_at(payload, 4);
+    play_from(out, at, payload, &mut counts[..c], &mut words[..w])
+}
+
+// Whether a payload has exactly what its kind asks for.
+fn is_right(kind: u8, payload: &[u8]) -> bool {
+    match kind {
+        b'R' => payload.len() <= 40000,
+        b'C' => is_raw(payload) & (payload.len() == 760),
+        b'W' => is_raw(payload),
+        b'L' => is_raw(payload) & (payload.len() == 776),
+        b'N' => is_raw(payload) & (payload.len() == 768),
+        b'K' => is_raw(payload) & has_lists(payload, 760, 768),
+        b'P' => has_lists(payload, 0, 24),
+        _ => false,
+    }
+}
+
+fn put_lines(out: &mut [u8], at: usize, kind: u8, payload: &mut [u8]) -> usize
+    ensures { λ r. ⌜ Puts (linesOf kind (now (payload .entry))) (now (out .entry)) at r (now (out .exit)) ⌝ }
+{
+    match kind {
+        b'R' => put_read(out, at, payload),
+        b'C' => put_check(out, at, payload),
+        b'W' => put_write(out, at, payload),
+        b'L' => put_level(out, at, payload),
+        b'N' => put_locate(out, at, payload),
+        b'K' => put_compile(out, at, payload),
+        _ => put_play(out, at, payload),
+    }
+}
+
+// The answer to case k: its first line and those of its kind. Gives its length.
+fn put_case(out: &mut [u8], k: u64, kind: u8, payload: &mut [u8]) -> usize
+    ensures { λ r. ⌜ Puts (caseLine k kind ++ linesOf kind (now (payload .entry))) (now (out .entry)) 0 r (now (out .exit)) ⌝ }
+{
+    let at = put_case_line(out, k, kind);
+    put_lines(out, at, kind, payload)
+}
+
+// The same; 0 where the payload is at fault.
+pub(crate) fn put_answer(out: &mut [u8], k: u64, kind: u8, payload: &mut [u8]) -> usize
+    ensures { λ r. ⌜ r ≤ length (now (out .exit)) ⌝ }
+{
+    if !is_right(kind, payload) {
+        return 0;
+    }
+    put_case(out, k, kind, payload)
+}

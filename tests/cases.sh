@@ -1,0 +1,75 @@
+#!/usr/bin/env bash
+# Asks the entry points and a second implementation, reference/, the same questions and compares every answer, byte by byte: the stored batch, and
+# a random one with a fresh seed (CASES_SEED=N repeats one). Then breaks one rule of a copy of the second implementation, which must be noticed.
+set -u
+cd "$(dirname "$0")/.." || exit 1
+program=$PWD/target/bin/cases
+[ -x "$program" ] || { echo "cases: no $program"; exit 1; }
+command -v cargo > /dev/null 2>&1 || { echo "cases: cargo, Rust's build tool, is not on PATH: the second implementation cannot be built"; exit 1; }
+work=$(mktemp -d) || exit 1
+trap 'rm -rf "$work"' EXIT
+bad=0
+fail() { bad=$((bad + 1)); echo "cases: $*"; }
+
+# build SOURCE TARGET: the programs of a copy of reference/
+build() {
+  (cd "$1" && CARGO_TARGET_DIR=$2 timeout 600 cargo build --release --offline --quiet) || { echo "cases: $1 cannot be built"; exit 1; }
+}
+# differs A B: the case of the first line that differs; nothing where all lines are the same
+differs() {
+  awk -v other="$2" '/^CASE / { k = $0 } { if ((getline line < other) <= 0 || line != $0) { print k; found = 1; exit } }
+    END { if (!found && (getline line < other) > 0) print "past the last case" }' "$1"
+}
+# compare NAME: the batch and the answers of that name
+compare() {
+  timeout 600 "$program" < "$work/$1.batch" > "$work/$1.got" 2> "$work/$1.err"
+  timeout 600 "$work/target/release/answers" < "$work/$1.batch" > "$work/$1.expected" || fail "$1: the second implementation refuses the batch"
+  [ ! -s "$work/$1.err" ] || fail "$1: said '$(head -c 200 "$work/$1.err")'"
+  if [ -s "$work/$1.expected" ] && cmp -s "$work/$1.expected" "$work/$1.got"; then
+    echo "cases: $1: $(grep -c '^CASE ' "$work/$1.expected") cases agreed"
+  else
+    fail "$1: differs at $(differs "$work/$1.expected" "$work/$1.got")"
+  fi
+}
+
+build reference "$work/target"
+seed=${CASES_SEED:-$(od -An -N4 -tu4 /dev/urandom | tr -d ' ')}
+echo "cases: seed $seed"
+"$work/target/release/batch" stored > "$work/stored.batch" || fail "no stored batch"
+"$work/target/release/batch" random "$seed" 6000 > "$work/random.batch" || fail "no random batch"
+compare stored
+compare random
+
+# one rule broken: 18 asks for one step of room too many
+mkdir "$work/broken"
+cp -r reference/Cargo.toml reference/Cargo.lock reference/src "$work/broken/"
+sed -i 's/demand(needed <= room, NO_ROOM/demand(needed < room, NO_ROOM/' "$work/broken/src/list.rs"
+if cmp -s reference/src/list.rs "$work/broken/src/list.rs"; then
+  fail "the edit that breaks a rule changes nothing"
+else
+  build "$work/broken" "$work/broken-target"
+  timeout 600 "$work/broken-target/release/answers" < "$work/stored.batch" > "$work/broken.expected"
+  if cmp -s "$work/broken.expected" "$work/stored.got"; then
+    fail "a broken rule goes unnoticed"
+  else
+    echo "cases: a broken rule is noticed at $(differs "$work/broken.expected" "$work/stored.got")"
+  fi
+fi
+
+# a batch at fault: one line on standard error, and no answer
+fault() {
+  local what=$1 said="cases: the batch is at fault"
+  printf "$2" | timeout 20 "$program" > "$work/out" 2> "$work/err"
+  [ ! -s "$work/out" ] && [ "$(cat "$work/err")" == "$said" ] || fail "$what: printed '$(head -c 100 "$work/out")', said '$(head -c 100 "$work/err")'"
+}
+fault "a head cut off" 'R\1\0'
+fault "a payload cut off" 'R\3\0\0\0ab'
+fault "a payload too long" 'R\1\0\1\0'
+fault "a kind that is none" 'X\0\0\0\0'
+fault "a profile too short" 'C\2\0\0\0ab'
+fault "lists shorter than they say" 'P\30\0\0\0\1\0\0\0\0\0\0\0\0\0\0\0\0\0\0\0\0\0\0\0\0\0\0\0'
+timeout 20 "$program" < . > "$work/out" 2> "$work/err"
+[ ! -s "$work/out" ] && [ "$(cat "$work/err")" == "cases: cannot read standard input" ] || fail "a directory: said '$(head -c 100 "$work/err")'"
+
+[ "$bad" -eq 0 ] && echo "cases: all agreed" || echo "cases: $bad failed"
+[ "$bad" -eq 0 ]
