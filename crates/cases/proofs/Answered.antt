@@ -1,38 +1,22 @@
 -- What the drivers put is what the definitions say: each law joins what an entry point ensures to the text of its kind.
 -- Assumes nothing.
 use Prim.Native.Nat.{ℕ, _+_, _*_, _≤_}
-use mathlib.Core.Path.{_≡_, refl, sym, ap}
-use mathlib.Core.List.{List}
-use lib.Dec.{eqb}
 use native.Mathlib.Omega.{arith}
+use mathlib.Core.Path.{_≡_}
+use mathlib.Core.List.{List}
 use lib.ListN.{length, take, drop, length-take}
 use lib.Seq.{length-take-le}
-use borrow.Author.Tests.{ne-eqb}
 use Rattle.profile.specs.Rules.{checkProfile}
 use Rattle.profile.specs.Script.{readScript}
 use Rattle.profile.specs.Writing.{writeAnswer, writeLeaves}
+use Rattle.profile.specs.declared.Profile.{Profile}
+use Rattle.profile.specs.declared.Written.{Written}
 use Rattle.level.specs.Place.{levelAnswer, locateAnswer}
 use Rattle.holdlist.specs.Compile.{roomOf, compileAnswer, compileCounts, compileWords}
 use Rattle.holdlist.specs.Play.{playAnswer}
-use Rattle.profile.specs.declared.Profile.{Profile}
-use Rattle.profile.specs.declared.Written.{Written}
 use Rattle.holdlist.specs.declared.Compiled.{Compiled}
 use Rattle.cases.specs.Raw.{eightAt, numbersFrom, foursFrom, rawProfile}
-use Rattle.cases.specs.Kinds.{
-  verdictText,
-  readText,
-  levelText,
-  locateText,
-  writeText,
-  writeOf,
-  compileText,
-  compileOf,
-  compileLines,
-  lengthAt,
-  playText,
-  playLines,
-  linesOf,
-}
+use Rattle.cases.specs.Kinds.{verdictText, readText, levelText, locateText, writeText, writeOf, compileText, compileOf, compileLines, lengthAt, playText, playLines, linesOf}
 
 pub write-told :
     (p : Profile) (s s′ : List ℕ) (r : Written) → r ≡ writeAnswer p (length s) → s′ ≡ writeLeaves p s → writeText r s′ ≡ writeOf p s

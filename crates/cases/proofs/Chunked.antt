@@ -3,7 +3,6 @@
 use Prim.Native.Nat.{ℕ}
 use mathlib.Core.Path.{_≡_}
 use mathlib.Core.List.{List}
-use mathlib.Core.Bool.{Bool, true, false, cond}
 use Rattle.profile.specs.Lists.{chunks}
 use Rattle.holdlist.specs.Text.{Puts}
 

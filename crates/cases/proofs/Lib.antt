@@ -2,4 +2,5 @@ pub mod Filling
 pub mod Chunked
 pub mod Parts
 pub mod Answered
+pub mod Refusing
 pub mod Inputs

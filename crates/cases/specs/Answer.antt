@@ -1,13 +1,12 @@
 -- The text of the answers of tests/cases/FORMAT.md: decimal numbers parted by single spaces, bytes as upper-case hex, LF at each line's end.
 -- Assumes nothing.
-use Prim.Native.Nat.{ℕ, _+_, _/_, _%_}
+use Prim.Native.Nat.{ℕ, _/_, _%_}
 use mathlib.Core.List.{List, [], _∷_, _++_}
 use mathlib.Core.Bool.{Bool, cond}
 use lib.Dec.{eqb}
 use lib.ListN.{length, getD}
 use Rattle.profile.specs.Lists.{chunks}
 use Rattle.profile.specs.Values.{modeNumber, emptyRegion, emptySequence, emptyGate, emptyShutter}
-use Rattle.holdlist.specs.Text.{decimal, hexDigit}
 use Rattle.profile.specs.declared.Region.{Region}
 use Rattle.profile.specs.declared.Sequence.{Sequence}
 use Rattle.profile.specs.declared.Field.{Field}
@@ -17,6 +16,7 @@ use Rattle.profile.specs.declared.Shutter.{Shutter}
 use Rattle.profile.specs.declared.Tables.{Tables}
 use Rattle.profile.specs.declared.Profile.{Profile}
 use Rattle.profile.specs.declared.Verdict.{Verdict}
+use Rattle.holdlist.specs.Text.{decimal, hexDigit}
 
 -- ---- numbers of a line
 

@@ -8,17 +8,17 @@ use lib.ListN.{length, drop}
 use Rattle.profile.specs.Rules.{checkProfile}
 use Rattle.profile.specs.Script.{readScript}
 use Rattle.profile.specs.Writing.{writeAnswer, writeLeaves}
-use Rattle.level.specs.Place.{levelAnswer, locateAnswer}
-use Rattle.holdlist.specs.Compile.{roomOf, compileAnswer, compileCounts, compileWords}
-use Rattle.holdlist.specs.Play.{playAnswer}
 use Rattle.profile.specs.declared.ReadAnswer.{ReadAnswer}
 use Rattle.profile.specs.declared.Verdict.{Verdict}
 use Rattle.profile.specs.declared.Written.{Written}
+use Rattle.profile.specs.declared.Profile.{Profile}
+use Rattle.level.specs.Place.{levelAnswer, locateAnswer}
 use Rattle.level.specs.declared.LevelAnswer.{LevelAnswer}
 use Rattle.level.specs.declared.Located.{Located}
+use Rattle.holdlist.specs.Compile.{roomOf, compileAnswer, compileCounts, compileWords}
+use Rattle.holdlist.specs.Play.{playAnswer}
 use Rattle.holdlist.specs.declared.Compiled.{Compiled}
 use Rattle.holdlist.specs.declared.Played.{Played}
-use Rattle.profile.specs.declared.Profile.{Profile}
 use Rattle.cases.specs.Raw.{fourAt, eightAt, numbersFrom, foursFrom, rawProfile}
 use Rattle.cases.specs.Answer.{after, headText, hexLine, joinedLine, profileLine}
 

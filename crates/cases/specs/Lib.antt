@@ -2,3 +2,4 @@ pub mod Input
 pub mod Raw
 pub mod Answer
 pub mod Kinds
+pub mod Faults

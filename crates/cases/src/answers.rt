@@ -27,19 +27,8 @@ ghost use Rattle.holdlist.specs.Play.{playAnswer};
 ghost use Rattle.holdlist.specs.Text.{Puts};
 ghost use Rattle.cases.specs.Raw.{rawProfile, eightAt};
 ghost use Rattle.cases.specs.Answer.{caseLine};
-ghost use Rattle.cases.specs.Kinds.{
-  verdictText,
-  readText,
-  levelText,
-  locateText,
-  writeOf,
-  lengthAt,
-  compileOf,
-  compileLines,
-  playText,
-  playLines,
-  linesOf,
-};
+ghost use Rattle.cases.specs.Kinds.{verdictText, readText, levelText, locateText, writeOf, lengthAt, compileOf, compileLines, playText, playLines, linesOf};
+ghost use Rattle.cases.specs.Faults.{isRight, answerText};
 
 // Room for 4,096 steps.
 fn count_room() -> [u32; 4096]
@@ -228,7 +217,9 @@ fn put_play(out: &mut [u8], at: usize, payload: &[u8]) -> usize
 }
 
 // Whether a payload has exactly what its kind asks for.
-fn is_right(kind: u8, payload: &[u8]) -> bool {
+fn is_right(kind: u8, payload: &[u8]) -> bool
+    ensures { λ r. ⌜ r ≡ isRight kind (now (payload .entry)) ⌝ }
+{
     match kind {
         b'R' => payload.len() <= 40000,
         b'C' => is_raw(payload) & (payload.len() == 760),
@@ -265,7 +256,7 @@ fn put_case(out: &mut [u8], k: u64, kind: u8, payload: &mut [u8]) -> usize
 
 // The same; 0 where the payload is at fault.
 pub(crate) fn put_answer(out: &mut [u8], k: u64, kind: u8, payload: &mut [u8]) -> usize
-    ensures { λ r. ⌜ r ≤ length (now (out .exit)) ⌝ }
+    ensures { λ r. ⌜ Puts (answerText k kind (now (payload .entry))) (now (out .entry)) 0 r (now (out .exit)) ⌝ }
 {
     if !is_right(kind, payload) {
         return 0;

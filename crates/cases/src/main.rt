@@ -4,7 +4,7 @@ mod raw;
 mod text;
 
 ghost use mathlib.Core.Path.{_≡_};
-ghost use Prim.Native.Nat.{_≤_, _<_};
+ghost use Prim.Native.Nat.{_<_};
 ghost use lib.ListN.{length};
 ghost use Rattle.cases.specs.Input.{Inside};
 use crate::answers::put_answer;
@@ -69,7 +69,7 @@ fn read_all(room: &mut [u8]) -> Input
     Input::Bytes(at)
 }
 
-// Prints the answer to case k; no text is that of a payload at fault.
+// Prints the answer to case k. No text is a payload at fault; what cannot be written is left.
 fn print_answer(k: u64, kind: u8, payload: &mut [u8], text: &mut [u8]) -> Outcome {
     let n = put_answer(text, k, kind, payload);
     if n == 0 {

@@ -13,25 +13,8 @@ ghost use Prim.Native.Nat.{_+_, _*_, _<_, min};
 ghost use lib.ListN.{length, getD};
 ghost use Rattle.profile.specs.Bytes.{numberAt};
 ghost use Rattle.profile.specs.Values.{modeOf};
-ghost use Rattle.cases.specs.Raw.{
-  flagAt,
-  fourAt,
-  eightAt,
-  sequenceAt,
-  gateAt,
-  subckAt,
-  shutterAt,
-  regionAt,
-  numbersFrom,
-  foursFrom,
-  rawSequences,
-  rawGates,
-  rawShutters,
-  rawRegions,
-  rawTables,
-  rawField,
-  rawProfile,
-};
+ghost use Rattle.cases.specs.Raw.{flagAt, fourAt, eightAt, sequenceAt, gateAt, subckAt, shutterAt, regionAt, numbersFrom, foursFrom, rawSequences, rawGates, rawShutters, rawRegions, rawTables, rawField, rawProfile};
+ghost use Rattle.cases.specs.Faults.{below, isRaw, hasLists};
 
 // ---- numbers
 
@@ -304,6 +287,7 @@ fn all_below(body: &[u8], at: usize, step: usize, n: usize, limit: u16) -> bool
     requires { ⌜ at < 1000 ⌝ }
     requires { ⌜ step < 100 ⌝ }
     requires { ⌜ n < 100 ⌝ }
+    ensures { λ r. ⌜ r ≡ below (now (body .entry)) at step n limit ⌝ }
 {
     let mut below = true;
     let mut place = at;
@@ -317,7 +301,9 @@ fn all_below(body: &[u8], at: usize, step: usize, n: usize, limit: u16) -> bool
 }
 
 // Whether a payload begins with a raw profile: each present flag is 0 or 1, each mode 0, 1 or 2.
-pub(crate) fn is_raw(body: &[u8]) -> bool {
+pub(crate) fn is_raw(body: &[u8]) -> bool
+    ensures { λ r. ⌜ r ≡ isRaw (now (body .entry)) ⌝ }
+{
     if body.len() < 760 {
         return false;
     }
@@ -331,6 +317,7 @@ pub(crate) fn is_raw(body: &[u8]) -> bool {
 pub(crate) fn has_lists(body: &[u8], at: usize, from: usize) -> bool
     requires { ⌜ at < 1000 ⌝ }
     requires { ⌜ from < 1000 ⌝ }
+    ensures { λ r. ⌜ r ≡ hasLists (now (body .entry)) at from ⌝ }
 {
     let counts = four_at(body, at);
     let words = four_at(body, at + 4);

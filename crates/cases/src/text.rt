@@ -14,32 +14,9 @@ ghost use mathlib.Core.Path.{_≡_};
 ghost use mathlib.Core.List.{[], _∷_};
 ghost use Prim.Native.Nat.{_<_};
 ghost use lib.ListN.{length};
-ghost use Rattle.holdlist.specs.Text.{hexDigit, decimal, Puts};
+ghost use Rattle.holdlist.specs.Text.{hexDigit, Puts};
 ghost use Rattle.profile.specs.Values.{modeNumber};
-ghost use Rattle.cases.specs.Answer.{
-  flagNumber,
-  next,
-  after,
-  afters,
-  joined,
-  joinedLine,
-  hex2,
-  hexOf,
-  hexLine,
-  sequenceNumbers,
-  gateNumbers,
-  subckNumbers,
-  shutterNumbers,
-  regionNumbers,
-  sequencesText,
-  gatesText,
-  regionsText,
-  fieldText,
-  tablesText,
-  profileLine,
-  headText,
-  caseLine,
-};
+ghost use Rattle.cases.specs.Answer.{flagNumber, next, after, afters, joined, joinedLine, hex2, hexOf, hexLine, sequenceNumbers, gateNumbers, subckNumbers, shutterNumbers, regionNumbers, sequencesText, gatesText, regionsText, fieldText, tablesText, profileLine, headText, caseLine};
 
 pub(crate) fn put_byte(out: &mut [u8], at: usize, byte: u8) -> usize
     ensures { λ r. ⌜ Puts (byte ∷ []) (now (out .entry)) at r (now (out .exit)) ⌝ }

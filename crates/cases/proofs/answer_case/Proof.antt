@@ -1,7 +1,7 @@
 -- The payload is a part of the room.
 -- Assumes nothing.
-use lib.Seq.{length-take-le}
 use mathlib.Core.Path.{sym}
+use lib.Seq.{length-take-le}
 use borrow.Author.Needs.{needs}
 use Rattle.cases.proofs.answer_case.Statement.{statement}
 use Rattle.cases.proofs.answer_case.Tie as tie

@@ -1,9 +1,9 @@
 -- The loop's invariant: the rooms are as long as before. The measure is how far the number of cases is from the largest.
 -- Assumes nothing.
-use lib.ListN.{length}
-use mathlib.Core.Path.{_≡_, refl}
 use Prim.Native.Nat.{_-_}
 use native.Mathlib.Omega.{arith}
+use mathlib.Core.Path.{_≡_, refl}
+use lib.ListN.{length}
 use borrow.Author.Needs.{needs}
 use Rattle.cases.proofs.answer_cases.Statement.{statement}
 use Rattle.cases.proofs.answer_cases.Tie as tie

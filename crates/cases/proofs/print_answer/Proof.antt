@@ -1,8 +1,9 @@
 -- What is written is a part of the text.
 -- Assumes nothing.
-use lib.Seq.{length-take-le}
 use mathlib.Core.Path.{sym}
+use lib.Seq.{length-take-le}
 use borrow.Author.Needs.{needs}
+use Rattle.cases.proofs.Refusing.{puts-inside}
 use Rattle.cases.proofs.print_answer.Statement.{statement}
 use Rattle.cases.proofs.print_answer.Tie as tie
 
@@ -19,7 +20,7 @@ returns : tie.Need-returns
 returns c = search needs
 
 slice-reshare-prefix-write-all : tie.Need-slice-reshare-prefix-write-all
-slice-reshare-prefix-write-all c = search needs
+slice-reshare-prefix-write-all c = puts-inside (c .before .before .before .before .before .put-answer .ensures)
 
 slice-aggregate-write-all : tie.Need-slice-aggregate-write-all
 slice-aggregate-write-all c = sym (length-take-le _ _ (slice-reshare-prefix-write-all (c .before)))

@@ -1,11 +1,11 @@
 -- `read_all` meets its contract. The loop's invariant: `at` lies within the room.
 -- Assumes nothing.
 use Prim.Native.Nat.{_-_, _≤_}
+use native.Mathlib.Omega.{arith}
 use mathlib.Core.Path.{_≡_}
 use lib.ListN.{length}
-use Rattle.cases.proofs.Inputs.{bytes-after}
 use borrow.Author.Needs.{needs}
-use native.Mathlib.Omega.{arith}
+use Rattle.cases.proofs.Inputs.{bytes-after}
 use Rattle.cases.proofs.read_all.Statement.{statement}
 use Rattle.cases.proofs.read_all.Tie as tie
 

@@ -1,11 +1,11 @@
 -- The lists are what the payload has, and as long as before.
 -- Assumes nothing.
-use lib.ListN.{length}
-use mathlib.Core.Path.{_≡_}
-use Rattle.cases.proofs.Answered.{play-filled}
-use Rattle.holdlist.proofs.Puts.{puts-as}
 use native.Mathlib.Omega.{arith}
+use mathlib.Core.Path.{_≡_}
+use lib.ListN.{length}
 use borrow.Author.Needs.{needs}
+use Rattle.holdlist.proofs.Puts.{puts-as}
+use Rattle.cases.proofs.Answered.{play-filled}
 use Rattle.cases.proofs.answers.play_from.Statement.{statement}
 use Rattle.cases.proofs.answers.play_from.Tie as tie
 

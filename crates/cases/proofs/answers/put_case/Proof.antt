@@ -1,7 +1,7 @@
 -- The first line, then the others.
 -- Assumes nothing.
-use Rattle.holdlist.proofs.Puts.{puts-more}
 use borrow.Author.Needs.{needs}
+use Rattle.holdlist.proofs.Puts.{puts-more}
 use Rattle.cases.proofs.answers.put_case.Statement.{statement}
 use Rattle.cases.proofs.answers.put_case.Tie as tie
 

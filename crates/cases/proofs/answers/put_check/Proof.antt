@@ -1,10 +1,10 @@
 -- The verdict of the raw profile is put.
 -- Assumes nothing.
-use Rattle.cases.specs.Kinds.{verdictText}
-use Rattle.profile.specs.Rules.{checkProfile}
 use mathlib.Core.Path.{ap, _∙_}
-use Rattle.holdlist.proofs.Puts.{puts-as}
 use borrow.Author.Needs.{needs}
+use Rattle.profile.specs.Rules.{checkProfile}
+use Rattle.holdlist.proofs.Puts.{puts-as}
+use Rattle.cases.specs.Kinds.{verdictText}
 use Rattle.cases.proofs.answers.put_check.Statement.{statement}
 use Rattle.cases.proofs.answers.put_check.Tie as tie
 

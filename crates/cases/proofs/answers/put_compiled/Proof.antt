@@ -1,11 +1,9 @@
 -- The parts of what `compile` answers are put one after the other, then the lists as it left them.
 -- Assumes nothing.
-use Rattle.cases.proofs.Answered.{compile-told}
-use Rattle.cases.specs.Kinds.{compileText}
-use Rattle.cases.specs.Kinds.{compileText, compileOf}
-use Rattle.holdlist.proofs.Puts.{puts-as}
-use Rattle.holdlist.proofs.Puts.{puts-more}
 use borrow.Author.Needs.{needs}
+use Rattle.holdlist.proofs.Puts.{puts-as, puts-more}
+use Rattle.cases.specs.Kinds.{compileText}
+use Rattle.cases.proofs.Answered.{compile-told}
 use Rattle.cases.proofs.answers.put_compiled.Statement.{statement}
 use Rattle.cases.proofs.answers.put_compiled.Tie as tie
 

@@ -1,9 +1,8 @@
 -- The parts of what `level` answers are put one after the other.
 -- Assumes nothing.
-use Rattle.cases.specs.Kinds.{levelText}
-use Rattle.holdlist.proofs.Puts.{puts-as}
-use Rattle.holdlist.proofs.Puts.{puts-more}
 use borrow.Author.Needs.{needs}
+use Rattle.holdlist.proofs.Puts.{puts-as, puts-more}
+use Rattle.cases.specs.Kinds.{levelText}
 use Rattle.cases.proofs.answers.put_level.Statement.{statement}
 use Rattle.cases.proofs.answers.put_level.Tie as tie
 

@@ -1,10 +1,10 @@
 -- Each arm is of its kind; the last is none of those before.
 -- Assumes nothing.
-use Rattle.cases.proofs.Answered.{read-kind, check-kind, write-kind, level-kind, locate-kind, compile-kind}
-use Rattle.cases.specs.Kinds.{linesOf}
 use borrow.Author.Tests.{ne-eqb}
-use Rattle.holdlist.proofs.Puts.{puts-as}
 use borrow.Author.Needs.{needs}
+use Rattle.holdlist.proofs.Puts.{puts-as}
+use Rattle.cases.specs.Kinds.{linesOf}
+use Rattle.cases.proofs.Answered.{read-kind, check-kind, write-kind, level-kind, locate-kind, compile-kind}
 use Rattle.cases.proofs.answers.put_lines.Statement.{statement}
 use Rattle.cases.proofs.answers.put_lines.Tie as tie
 

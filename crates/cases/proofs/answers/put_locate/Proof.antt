@@ -1,9 +1,8 @@
 -- The parts of what `locate` answers are put one after the other.
 -- Assumes nothing.
-use Rattle.cases.specs.Kinds.{locateText}
-use Rattle.holdlist.proofs.Puts.{puts-as}
-use Rattle.holdlist.proofs.Puts.{puts-more}
 use borrow.Author.Needs.{needs}
+use Rattle.holdlist.proofs.Puts.{puts-as, puts-more}
+use Rattle.cases.specs.Kinds.{locateText}
 use Rattle.cases.proofs.answers.put_locate.Statement.{statement}
 use Rattle.cases.proofs.answers.put_locate.Tie as tie
 

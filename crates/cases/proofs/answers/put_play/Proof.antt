@@ -1,14 +1,14 @@
 -- The lists are the parts of two rooms of the lengths that the payload has.
 -- Assumes nothing.
-use native.Mathlib.Omega.{arith}
-use Rattle.cases.proofs.Answered.{taken-short, taken-lines}
-use lib.ListN.{length}
 use Prim.Native.Nat.{_≤_}
-use Rattle.cases.specs.Kinds.{playLines}
-use lib.Seq.{length-take-le}
+use native.Mathlib.Omega.{arith}
 use mathlib.Core.Path.{sym}
-use Rattle.holdlist.proofs.Puts.{puts-as}
+use lib.ListN.{length}
+use lib.Seq.{length-take-le}
 use borrow.Author.Needs.{needs}
+use Rattle.holdlist.proofs.Puts.{puts-as}
+use Rattle.cases.specs.Kinds.{playLines}
+use Rattle.cases.proofs.Answered.{taken-short, taken-lines}
 use Rattle.cases.proofs.answers.put_play.Statement.{statement}
 use Rattle.cases.proofs.answers.put_play.Tie as tie
 

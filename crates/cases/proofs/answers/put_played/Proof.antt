@@ -1,9 +1,9 @@
 -- The parts of what `play` answers are put one after the other.
 -- Assumes nothing.
-use Rattle.cases.specs.Kinds.{playText}
 use mathlib.Core.Path.{ap}
-use Rattle.holdlist.proofs.Puts.{puts-more, puts-as}
 use borrow.Author.Needs.{needs}
+use Rattle.holdlist.proofs.Puts.{puts-more, puts-as}
+use Rattle.cases.specs.Kinds.{playText}
 use Rattle.cases.proofs.answers.put_played.Statement.{statement}
 use Rattle.cases.proofs.answers.put_played.Tie as tie
 

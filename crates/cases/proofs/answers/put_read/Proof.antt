@@ -1,10 +1,9 @@
 -- The verdict, then the profile that was read.
 -- Assumes nothing.
 use mathlib.Core.Path.{ap}
-use Rattle.cases.specs.Kinds.{readText}
-use Rattle.holdlist.proofs.Puts.{puts-as}
-use Rattle.holdlist.proofs.Puts.{puts-more}
 use borrow.Author.Needs.{needs}
+use Rattle.holdlist.proofs.Puts.{puts-as, puts-more}
+use Rattle.cases.specs.Kinds.{readText}
 use Rattle.cases.proofs.answers.put_read.Statement.{statement}
 use Rattle.cases.proofs.answers.put_read.Tie as tie
 

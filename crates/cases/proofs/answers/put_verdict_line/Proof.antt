@@ -1,8 +1,8 @@
 -- The verdict, then the end of the line.
 -- Assumes nothing.
-use Rattle.cases.specs.Kinds.{verdictText}
-use Rattle.holdlist.proofs.Puts.{puts-more}
 use borrow.Author.Needs.{needs}
+use Rattle.holdlist.proofs.Puts.{puts-more}
+use Rattle.cases.specs.Kinds.{verdictText}
 use Rattle.cases.proofs.answers.put_verdict_line.Statement.{statement}
 use Rattle.cases.proofs.answers.put_verdict_line.Tie as tie
 

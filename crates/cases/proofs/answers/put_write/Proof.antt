@@ -1,10 +1,8 @@
 -- The slice is what follows the raw profile.
 -- Assumes nothing.
-use Rattle.cases.proofs.Parts.{rest-dropped}
-use Rattle.cases.specs.Kinds.{writeOf}
-use mathlib.Core.Path.{ap}
-use Rattle.holdlist.proofs.Puts.{puts-as}
 use borrow.Author.Needs.{needs}
+use Rattle.holdlist.proofs.Puts.{puts-as}
+use Rattle.cases.proofs.Parts.{rest-dropped}
 use Rattle.cases.proofs.answers.put_write.Statement.{statement}
 use Rattle.cases.proofs.answers.put_write.Tie as tie
 

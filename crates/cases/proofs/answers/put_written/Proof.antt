@@ -1,10 +1,9 @@
 -- The parts of what `write` answers are put one after the other, then the slice as it left it.
 -- Assumes nothing.
-use Rattle.cases.proofs.Answered.{write-told}
-use Rattle.cases.specs.Kinds.{writeText}
-use Rattle.holdlist.proofs.Puts.{puts-as}
-use Rattle.holdlist.proofs.Puts.{puts-more}
 use borrow.Author.Needs.{needs}
+use Rattle.holdlist.proofs.Puts.{puts-as, puts-more}
+use Rattle.cases.specs.Kinds.{writeText}
+use Rattle.cases.proofs.Answered.{write-told}
 use Rattle.cases.proofs.answers.put_written.Statement.{statement}
 use Rattle.cases.proofs.answers.put_written.Tie as tie
 

@@ -1,6 +1,5 @@
 -- Past the end the default is read.
 -- Assumes nothing.
-use mathlib.Core.Path.{sym}
 use lib.ListN.{List·getD-eq-default}
 use borrow.Author.Needs.{needs}
 use Rattle.cases.proofs.raw.byte_at.Statement.{statement}

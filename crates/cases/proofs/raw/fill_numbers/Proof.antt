@@ -1,14 +1,14 @@
 -- The loop's invariant: the first i entries are read and the rest are as they were.
 -- Assumes nothing.
-use Rattle.cases.proofs.Filling.{filled-none, filled-more, filled-all}
-use Rattle.profile.specs.Bytes.{numberAt}
-use Rattle.profile.specs.Lists.{chunks}
-use lib.ListN.{length, drop, length-set}
-use mathlib.Core.List.{[], _∷_, _++_}
-use mathlib.Core.Path.{_≡_, refl}
 use Prim.Native.Nat.{_≤_, _+_, _*_, _-_}
 use native.Mathlib.Omega.{arith}
+use mathlib.Core.List.{[], _∷_, _++_}
+use mathlib.Core.Path.{_≡_, refl}
+use lib.ListN.{length, drop, length-set}
 use borrow.Author.Needs.{needs}
+use Rattle.profile.specs.Bytes.{numberAt}
+use Rattle.profile.specs.Lists.{chunks}
+use Rattle.cases.proofs.Filling.{filled-none, filled-more, filled-all}
 use Rattle.cases.proofs.raw.fill_numbers.Statement.{statement}
 use Rattle.cases.proofs.raw.fill_numbers.Tie as tie
 

@@ -1,7 +1,7 @@
 -- Each number stands at its place.
 -- Assumes nothing.
-use Rattle.cases.specs.Raw.{rawField}
 use borrow.Author.Needs.{needs}
+use Rattle.cases.specs.Raw.{rawField}
 use Rattle.cases.proofs.raw.raw_field.Statement.{statement}
 use Rattle.cases.proofs.raw.raw_field.Tie as tie
 

@@ -1,8 +1,8 @@
 -- Each item stands at its place.
 -- Assumes nothing.
-use Rattle.cases.specs.Raw.{rawGates}
-use Rattle.profile.specs.Lists.{chunks}
 use borrow.Author.Needs.{needs}
+use Rattle.profile.specs.Lists.{chunks}
+use Rattle.cases.specs.Raw.{rawGates}
 use Rattle.cases.proofs.raw.raw_gates.Statement.{statement}
 use Rattle.cases.proofs.raw.raw_gates.Tie as tie
 

@@ -1,8 +1,8 @@
 -- Each item stands at its place.
 -- Assumes nothing.
-use Rattle.cases.specs.Raw.{rawRegions}
-use Rattle.profile.specs.Lists.{chunks}
 use borrow.Author.Needs.{needs}
+use Rattle.profile.specs.Lists.{chunks}
+use Rattle.cases.specs.Raw.{rawRegions}
 use Rattle.cases.proofs.raw.raw_regions.Statement.{statement}
 use Rattle.cases.proofs.raw.raw_regions.Tie as tie
 

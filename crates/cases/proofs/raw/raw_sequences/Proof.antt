@@ -1,11 +1,9 @@
 -- Each item stands at its place.
 -- Assumes nothing.
-use Rattle.cases.proofs.Filling.{ten}
-use Rattle.cases.specs.Raw.{sequenceAt, rawSequences}
 use Prim.Native.Nat.{_+_, _*_}
-use Rattle.cases.specs.Raw.{rawSequences}
-use Rattle.profile.specs.Lists.{chunks}
 use borrow.Author.Needs.{needs}
+use Rattle.cases.specs.Raw.{sequenceAt, rawSequences}
+use Rattle.cases.proofs.Filling.{ten}
 use Rattle.cases.proofs.raw.raw_sequences.Statement.{statement}
 use Rattle.cases.proofs.raw.raw_sequences.Tie as tie
 

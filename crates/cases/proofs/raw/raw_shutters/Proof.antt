@@ -1,8 +1,8 @@
 -- Each item stands at its place.
 -- Assumes nothing.
-use Rattle.cases.specs.Raw.{rawShutters}
-use Rattle.profile.specs.Lists.{chunks}
 use borrow.Author.Needs.{needs}
+use Rattle.profile.specs.Lists.{chunks}
+use Rattle.cases.specs.Raw.{rawShutters}
 use Rattle.cases.proofs.raw.raw_shutters.Statement.{statement}
 use Rattle.cases.proofs.raw.raw_shutters.Tie as tie
 

@@ -1,7 +1,7 @@
 -- Each item is read.
 -- Assumes nothing.
-use Rattle.cases.specs.Raw.{rawTables}
 use borrow.Author.Needs.{needs}
+use Rattle.cases.specs.Raw.{rawTables}
 use Rattle.cases.proofs.raw.raw_tables.Statement.{statement}
 use Rattle.cases.proofs.raw.raw_tables.Tie as tie
 

@@ -1,13 +1,13 @@
 -- The loop's invariant: the first i bytes are put.
 -- Assumes nothing.
-use Rattle.holdlist.proofs.Puts.{puts-none, puts-next, puts-length}
-use Rattle.holdlist.specs.Text.{Puts}
-use lib.Seq.{take-all}
-use lib.ListN.{length, take}
-use mathlib.Core.Path.{_≡_, refl, _∙_}
 use Prim.Native.Nat.{_-_, _≤_}
 use native.Mathlib.Omega.{arith}
+use mathlib.Core.Path.{_≡_, refl, _∙_}
+use lib.Seq.{take-all}
+use lib.ListN.{length, take}
 use borrow.Author.Needs.{needs}
+use Rattle.holdlist.proofs.Puts.{puts-none, puts-next, puts-length}
+use Rattle.holdlist.specs.Text.{Puts}
 use Rattle.cases.proofs.text.put.Statement.{statement}
 use Rattle.cases.proofs.text.put.Tie as tie
 

@@ -1,7 +1,7 @@
 -- The space, then the number.
 -- Assumes nothing.
-use Rattle.holdlist.proofs.Puts.{puts-more}
 use borrow.Author.Needs.{needs}
+use Rattle.holdlist.proofs.Puts.{puts-more}
 use Rattle.cases.proofs.text.put_after.Statement.{statement}
 use Rattle.cases.proofs.text.put_after.Tie as tie
 

@@ -1,7 +1,7 @@
 -- A store, or no room.
 -- Assumes nothing.
-use Rattle.holdlist.proofs.Puts.{puts-past}
 use borrow.Author.Needs.{needs}
+use Rattle.holdlist.proofs.Puts.{puts-past}
 use Rattle.cases.proofs.text.put_byte.Statement.{statement}
 use Rattle.cases.proofs.text.put_byte.Tie as tie
 

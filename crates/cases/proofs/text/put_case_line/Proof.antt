@@ -1,8 +1,8 @@
 -- Its parts are put one after the other.
 -- Assumes nothing.
-use Rattle.cases.specs.Answer.{caseLine}
-use Rattle.holdlist.proofs.Puts.{puts-more}
 use borrow.Author.Needs.{needs}
+use Rattle.holdlist.proofs.Puts.{puts-more}
+use Rattle.cases.specs.Answer.{caseLine}
 use Rattle.cases.proofs.text.put_case_line.Statement.{statement}
 use Rattle.cases.proofs.text.put_case_line.Tie as tie
 

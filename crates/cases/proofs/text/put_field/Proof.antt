@@ -1,9 +1,8 @@
 -- Its parts are put one after the other.
 -- Assumes nothing.
-use Rattle.cases.specs.Answer.{fieldText}
-use Rattle.holdlist.proofs.Puts.{puts-as}
-use Rattle.holdlist.proofs.Puts.{puts-more}
 use borrow.Author.Needs.{needs}
+use Rattle.holdlist.proofs.Puts.{puts-as, puts-more}
+use Rattle.cases.specs.Answer.{fieldText}
 use Rattle.cases.proofs.text.put_field.Statement.{statement}
 use Rattle.cases.proofs.text.put_field.Tie as tie
 

@@ -1,16 +1,16 @@
 -- The loop's invariant: the first i are put.
 -- Assumes nothing.
-use Rattle.cases.proofs.Chunked.{puts-end}
-use Rattle.cases.specs.Answer.{afters, gateNumbers, gatesText}
-use Rattle.holdlist.proofs.Puts.{puts-no-chunk, puts-chunk, puts-length}
-use Rattle.holdlist.specs.Text.{Puts}
-use Rattle.profile.specs.Values.{emptyGate}
-use Rattle.profile.specs.Lists.{chunks}
-use lib.ListN.{length, getD}
-use mathlib.Core.Path.{_≡_, refl, _∙_}
 use Prim.Native.Nat.{_-_, _≤_}
 use native.Mathlib.Omega.{arith}
+use mathlib.Core.Path.{_≡_, refl, _∙_}
+use lib.ListN.{length, getD}
 use borrow.Author.Needs.{needs}
+use Rattle.profile.specs.Values.{emptyGate}
+use Rattle.profile.specs.Lists.{chunks}
+use Rattle.holdlist.proofs.Puts.{puts-no-chunk, puts-chunk, puts-length}
+use Rattle.holdlist.specs.Text.{Puts}
+use Rattle.cases.specs.Answer.{afters, gateNumbers, gatesText}
+use Rattle.cases.proofs.Chunked.{puts-end}
 use Rattle.cases.proofs.text.put_gates.Statement.{statement}
 use Rattle.cases.proofs.text.put_gates.Tie as tie
 

@@ -1,8 +1,7 @@
 -- The digits are put one after the other.
 -- Assumes nothing.
-use Rattle.holdlist.proofs.Puts.{puts-as}
-use Rattle.holdlist.proofs.Puts.{puts-more}
 use borrow.Author.Needs.{needs}
+use Rattle.holdlist.proofs.Puts.{puts-as, puts-more}
 use Rattle.cases.proofs.text.put_hex2.Statement.{statement}
 use Rattle.cases.proofs.text.put_hex2.Tie as tie
 

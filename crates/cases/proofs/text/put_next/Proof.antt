@@ -1,8 +1,8 @@
 -- By the test: a space is put before every number but the first.
 -- Assumes nothing.
-use Rattle.cases.specs.Answer.{next}
 use borrow.Author.Tests.{ne-eqb}
 use borrow.Author.Needs.{needs}
+use Rattle.cases.specs.Answer.{next}
 use Rattle.cases.proofs.text.put_next.Statement.{statement}
 use Rattle.cases.proofs.text.put_next.Tie as tie
 

@@ -1,7 +1,7 @@
 -- The numbers are put in their order.
 -- Assumes nothing.
-use Rattle.holdlist.proofs.Puts.{puts-as}
 use borrow.Author.Needs.{needs}
+use Rattle.holdlist.proofs.Puts.{puts-as}
 use Rattle.cases.proofs.text.put_sequence.Statement.{statement}
 use Rattle.cases.proofs.text.put_sequence.Tie as tie
 

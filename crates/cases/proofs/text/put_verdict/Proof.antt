@@ -1,7 +1,7 @@
 -- The number, then the place.
 -- Assumes nothing.
-use Rattle.holdlist.proofs.Puts.{puts-more}
 use borrow.Author.Needs.{needs}
+use Rattle.holdlist.proofs.Puts.{puts-more}
 use Rattle.cases.proofs.text.put_verdict.Statement.{statement}
 use Rattle.cases.proofs.text.put_verdict.Tie as tie
 

@@ -1,7 +1,7 @@
 -- The entries, then the end of the line.
 -- Assumes nothing.
-use Rattle.holdlist.proofs.Puts.{puts-more}
 use borrow.Author.Needs.{needs}
+use Rattle.holdlist.proofs.Puts.{puts-more}
 use Rattle.cases.proofs.text.put_words.Statement.{statement}
 use Rattle.cases.proofs.text.put_words.Tie as tie
 
