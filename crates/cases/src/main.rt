@@ -4,7 +4,6 @@ mod raw;
 mod text;
 
 ghost use mathlib.Core.Path.{_≡_};
-ghost use Prim.Native.Nat.{_<_};
 ghost use lib.ListN.{length};
 ghost use Rattle.cases.specs.Input.{Inside};
 use crate::answers::put_answer;
