@@ -3,4 +3,3 @@ pub mod Chunked
 pub mod Parts
 pub mod Answered
 pub mod Refusing
-pub mod Inputs

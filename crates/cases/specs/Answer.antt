@@ -16,7 +16,7 @@ use Rattle.profile.specs.declared.Shutter.{Shutter}
 use Rattle.profile.specs.declared.Tables.{Tables}
 use Rattle.profile.specs.declared.Profile.{Profile}
 use Rattle.profile.specs.declared.Verdict.{Verdict}
-use Rattle.holdlist.specs.Text.{decimal, hexDigit}
+use Rattle.holdlist.specs.Text.{decimal, hex2}
 
 -- ---- numbers of a line
 
@@ -38,9 +38,6 @@ abbrev pub joinedLine : List ℕ → List ℕ
 joinedLine ns = joined ns ++ (10 ∷ [])
 
 -- ---- bytes
-
-abbrev pub hex2 : ℕ → List ℕ
-hex2 b = (hexDigit (b / 16) ∷ []) ++ (hexDigit (b % 16) ∷ [])
 
 unfoldable pub hexOf : List ℕ → List ℕ
 hexOf bs = chunks (length bs) (λ i. hex2 (getD bs i 0))

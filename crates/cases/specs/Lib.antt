@@ -1,4 +1,3 @@
-pub mod Input
 pub mod Raw
 pub mod Answer
 pub mod Kinds

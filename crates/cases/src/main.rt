@@ -5,18 +5,12 @@ mod text;
 
 ghost use mathlib.Core.Path.{_≡_};
 ghost use lib.ListN.{length};
-ghost use Rattle.cases.specs.Input.{Inside};
 use crate::answers::put_answer;
 use crate::raw::four_at;
+use inlet::Input;
+use inlet::read_all;
 use libc::STDERR_FILENO;
-use libc::STDIN_FILENO;
 use libc::STDOUT_FILENO;
-
-// What came from standard input.
-enum Input {
-    Bytes(usize),
-    Failed,
-}
 
 // How a case went.
 enum Outcome {
@@ -38,34 +32,6 @@ fn text_room() -> [u8; 131072]
     ensures { λ r. ⌜ 131072 ≡ length r ⌝ }
 {
     [0; 131072]
-}
-
-// Reads once: no bytes at the end of the input. A read that fails is not an end.
-fn read_some(room: &mut [u8]) -> Input
-    ensures { λ r. ⌜ Inside r (length (now (room .entry))) ⌝ }
-{
-    let got = libc::read(STDIN_FILENO, room);
-    if got < 0 {
-        return Input::Failed;
-    }
-    Input::Bytes(io::count(got, room))
-}
-
-// Reads until the input ends or the room is full.
-fn read_all(room: &mut [u8]) -> Input
-    ensures { λ r. ⌜ Inside r (length (now (room .entry))) ⌝ }
-{
-    let mut at: usize = 0;
-    while at < room.len() {
-        let Input::Bytes(n) = read_some(&mut room[at..]) else {
-            return Input::Failed;
-        };
-        if n == 0 {
-            return Input::Bytes(at);
-        }
-        at += n;
-    }
-    Input::Bytes(at)
 }
 
 // Prints the answer to case k. No text is a payload at fault; what cannot be written is left.

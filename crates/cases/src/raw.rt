@@ -1,18 +1,17 @@
 // Numbers of a payload, little-endian, and the raw profile: 380 numbers of two bytes. What lies past the payload is 0.
 use profile::Field;
 use profile::Gate;
-use profile::Mode;
 use profile::Profile;
 use profile::Region;
 use profile::Sequence;
 use profile::Shutter;
 use profile::Subck;
 use profile::Tables;
+use profile::mode_of;
 ghost use mathlib.Core.Path.{_≡_};
 ghost use Prim.Native.Nat.{_+_, _*_, _<_, min};
 ghost use lib.ListN.{length, getD};
 ghost use Rattle.profile.specs.Bytes.{numberAt};
-ghost use Rattle.profile.specs.Values.{modeOf};
 ghost use Rattle.cases.specs.Raw.{flagAt, fourAt, eightAt, sequenceAt, gateAt, subckAt, shutterAt, regionAt, numbersFrom, foursFrom, rawSequences, rawGates, rawShutters, rawRegions, rawTables, rawField, rawProfile};
 ghost use Rattle.cases.specs.Faults.{below, isRaw, hasLists};
 
@@ -148,16 +147,6 @@ fn shutter_at(body: &[u8], at: usize) -> Shutter
         on_pixel: number_at(body, at + 6),
         off_line: number_at(body, at + 8),
         off_pixel: number_at(body, at + 10),
-    }
-}
-
-fn mode_of(number: u16) -> Mode
-    ensures { λ r. ⌜ r ≡ modeOf number ⌝ }
-{
-    match number {
-        0 => Mode::Plain,
-        1 => Mode::Sweep,
-        _ => Mode::Multiplier,
     }
 }
 

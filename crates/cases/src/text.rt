@@ -1,8 +1,10 @@
 // The text of the answers, put into a lent slice from a place on. What has no room is left out; each function gives the place after what it put.
+use holdlist::put;
+use holdlist::put_byte;
 use holdlist::put_decimal;
+use holdlist::put_hex2;
 use profile::Field;
 use profile::Gate;
-use profile::Mode;
 use profile::Profile;
 use profile::Region;
 use profile::Sequence;
@@ -10,36 +12,10 @@ use profile::Shutter;
 use profile::Subck;
 use profile::Tables;
 use profile::Verdict;
+use profile::mode_number;
 ghost use mathlib.Core.Path.{_≡_};
-ghost use mathlib.Core.List.{[], _∷_};
-ghost use Prim.Native.Nat.{_<_};
-ghost use lib.ListN.{length};
-ghost use Rattle.holdlist.specs.Text.{hexDigit, Puts};
-ghost use Rattle.profile.specs.Values.{modeNumber};
-ghost use Rattle.cases.specs.Answer.{flagNumber, next, after, afters, joined, joinedLine, hex2, hexOf, hexLine, sequenceNumbers, gateNumbers, subckNumbers, shutterNumbers, regionNumbers, sequencesText, gatesText, regionsText, fieldText, tablesText, profileLine, headText, caseLine};
-
-pub(crate) fn put_byte(out: &mut [u8], at: usize, byte: u8) -> usize
-    ensures { λ r. ⌜ Puts (byte ∷ []) (now (out .entry)) at r (now (out .exit)) ⌝ }
-{
-    if at < out.len() {
-        out[at] = byte;
-        at + 1
-    } else {
-        at
-    }
-}
-
-fn put(out: &mut [u8], at: usize, bytes: &[u8]) -> usize
-    ensures { λ r. ⌜ Puts (now (bytes .entry)) (now (out .entry)) at r (now (out .exit)) ⌝ }
-{
-    let mut to = at;
-    let mut i: usize = 0;
-    while i < bytes.len() {
-        to = put_byte(out, to, bytes[i]);
-        i += 1;
-    }
-    to
-}
+ghost use Rattle.holdlist.specs.Text.{Puts};
+ghost use Rattle.cases.specs.Answer.{flagNumber, next, after, afters, joined, joinedLine, hexOf, hexLine, sequenceNumbers, gateNumbers, subckNumbers, shutterNumbers, regionNumbers, sequencesText, gatesText, regionsText, fieldText, tablesText, profileLine, headText, caseLine};
 
 // ---- numbers of a line
 
@@ -115,20 +91,6 @@ pub(crate) fn put_counts(out: &mut [u8], at: usize, counts: &[u32]) -> usize
 
 // ---- bytes in hex
 
-fn hex_digit(d: u8) -> u8
-    requires { ⌜ d < 16 ⌝ }
-    ensures { λ r. ⌜ r ≡ hexDigit d ⌝ }
-{
-    if d < 10 { 48 + d } else { 55 + d }
-}
-
-fn put_hex2(out: &mut [u8], at: usize, byte: u8) -> usize
-    ensures { λ r. ⌜ Puts (hex2 byte) (now (out .entry)) at r (now (out .exit)) ⌝ }
-{
-    let a = put_byte(out, at, hex_digit(byte / 16));
-    put_byte(out, a, hex_digit(byte % 16))
-}
-
 fn put_hex(out: &mut [u8], at: usize, bytes: &[u8]) -> usize
     ensures { λ r. ⌜ Puts (hexOf (now (bytes .entry))) (now (out .entry)) at r (now (out .exit)) ⌝ }
 {
@@ -154,16 +116,6 @@ fn flag_number(flag: bool) -> u16
     ensures { λ r. ⌜ r ≡ flagNumber flag ⌝ }
 {
     if flag { 1 } else { 0 }
-}
-
-fn mode_number(mode: Mode) -> u16
-    ensures { λ r. ⌜ r ≡ modeNumber mode ⌝ }
-{
-    match mode {
-        Mode::Plain => 0,
-        Mode::Sweep => 1,
-        Mode::Multiplier => 2,
-    }
 }
 
 fn put_sequence(out: &mut [u8], at: usize, s: Sequence) -> usize

@@ -8,7 +8,8 @@ use borrow.Author.Needs.{needs}
 use Rattle.profile.specs.Lists.{chunks}
 use Rattle.holdlist.proofs.Puts.{puts-no-chunk, puts-chunk, puts-length}
 use Rattle.holdlist.specs.Text.{Puts}
-use Rattle.cases.specs.Answer.{hex2, hexOf}
+use Rattle.holdlist.specs.Text.{hex2}
+use Rattle.cases.specs.Answer.{hexOf}
 use Rattle.cases.proofs.Chunked.{puts-end}
 use Rattle.cases.proofs.text.put_hex.Statement.{statement}
 use Rattle.cases.proofs.text.put_hex.Tie as tie
