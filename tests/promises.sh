@@ -7,7 +7,7 @@ while read -r file names; do
   [ -f "$file" ] || { echo "promises: no file $file"; bad=1; continue; }
   for name in $names; do
     cited=$((cited + 1))
-    grep -qE "^ *((unfoldable|abbrev|pub) )*(record |data |fn |struct )?${name//./\\.}( |<|\(|\{|$)" "$file" || { echo "promises: $file declares no $name"; bad=1; }
+    grep -qE "^ *((unfoldable|abbrev|pub|pub\(crate\)) )*(record |data |fn |struct )?${name//./\\.}( |<|\(|\{|$)" "$file" || { echo "promises: $file declares no $name"; bad=1; }
   done
 done < <(grep -oE '`crates/[^`]*`' docs/PROMISES.md | tr -d '`' | sed 's/:/ /; s/,/ /g')
 [ "$cited" -gt 0 ] || { echo "promises: nothing is cited"; exit 1; }
