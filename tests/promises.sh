@@ -1,5 +1,5 @@
 #!/usr/bin/env bash
-# Every place that docs/PROMISES.md cites, `crates/..: name, name`, is a file of the repository that declares those names.
+# Every place that docs/PROMISES.md cites, `crates/..: name, name`, is a file of the repository that declares those names, and every public function is cited.
 set -u
 cd "$(dirname "$0")/.." || exit 1
 cited=0; bad=0
@@ -10,6 +10,11 @@ while read -r file names; do
     grep -qE "^ *((unfoldable|abbrev|pub|pub\(crate\)) )*(record |data |fn |struct )?${name//./\\.}( |<|\(|\{|$)" "$file" || { echo "promises: $file declares no $name"; bad=1; }
   done
 done < <(grep -oE '`crates/[^`]*`' docs/PROMISES.md | tr -d '`' | sed 's/:/ /; s/,/ /g')
+for file in crates/*/src/*.rt; do
+  for name in $(grep -oE '^pub fn [a-z_0-9]+' "$file" | cut -d ' ' -f 3); do
+    grep -qF "\`$file: $name\`" docs/PROMISES.md || { echo "promises: $file: $name has no promise"; bad=1; }
+  done
+done
 [ "$cited" -gt 0 ] || { echo "promises: nothing is cited"; exit 1; }
 [ "$bad" -eq 0 ] && echo "promises: $cited names found where they are cited"
 exit "$bad"
