@@ -1,6 +1,7 @@
 -- Counting flips by keys and counts gives the levels of the rules, and edges give the levels of gates, SUBCK and shutters.
+-- Levels stay while no further key or edge is passed.
 -- Assumes nothing.
-use mathlib.Core.Path.{_≡_, refl, sym, ap, _∙_}
+use mathlib.Core.Path.{_≡_, refl, sym, ap, subst, _∙_}
 use mathlib.Core.Bool.{Bool, true, false, cond, not, _&&_}
 use mathlib.Core.List.{List, [], _∷_, _++_}
 use Prim.Native.Nat.{ℕ, zero, suc, _+_, _-_, _*_, _/_, _%_, _≤_, _<_}
@@ -13,7 +14,7 @@ use lib.ListN.{length, getD, take, set}
 use lib.Seq.{take-suc-set}
 use Rattle.profile.proofs.Laws.{cond-case, by-cases, chunks-more}
 use Rattle.profile.specs.Lists.{chunks}
-use Rattle.profile.specs.Patterns.{rowOf, used}
+use Rattle.profile.specs.Patterns.{threeAt, rowOf, rowsOf, used}
 use Rattle.profile.specs.declared.Mode.{Mode}
 use Rattle.profile.specs.declared.Mode.the-variants.{Plain, Multiplier}
 use Rattle.profile.specs.declared.Pattern.{Pattern}
@@ -34,8 +35,10 @@ use Rattle.level.specs.Word.{
   vWord,
   wordOf,
 }
-use Rattle.level.specs.Ready.{firstWord, secondWord, othersWord}
-use Rattle.level.specs.Count.{runCount, keyOf, countTo, timesCount, upTo, passed, rowsOf, keysOf, sixAt}
+use Rattle.level.specs.declared.outputs.Edges.{Edges}
+use Rattle.level.specs.declared.outputs.Ready.{Ready}
+use Rattle.level.specs.Ready.{firstWord, secondWord, othersWord, firstAt, secondAt, secondBegun, countAt, sideAt, unmaskedAt, edgesAt, noEdges, eightAt, Stays}
+use Rattle.level.specs.Count.{runCount, keyOf, countTo, timesCount, upTo, passed, keysOf, sixAt}
 
 -- ---- choices
 
@@ -289,8 +292,9 @@ pub edges-act : (level x y p : ℕ) → x < 65536 → y < 65536
     → flipped level (bit (leb x (upTo 65535 p)) + bit (leb y (upTo 65535 p))) ≡ flipped level (bit (leb x p) + bit (leb y p))
 edges-act level x y p hx hy = λ i. flipped level (bit (cap-leb x p hx i) + bit (cap-leb y p hy i))
 
-pub edges-rest : (level p : ℕ) → flipped level (bit (leb 0 p) + bit (leb 0 p)) ≡ flipped level 0
-edges-rest level p = rw (le-leb 0 p (omega arith)) (omega arith)
+pub edges-rest : (level : ℕ) (b : Bool) → flipped level (bit b + bit b) ≡ flipped level 0
+edges-rest level true = omega arith
+edges-rest level false = refl
 
 -- a shutter flips at both ends of its span
 pub span-turns : (level from to p : ℕ) → from ≤ to
@@ -311,6 +315,65 @@ span-none level from to p h =
     by-cases (leb from p)
     (λ e. rw (e, le-ltb p to (omega (arith, leb-true from p e))) (omega arith))
     (λ e. rw e (omega arith))
+
+-- ---- levels stay while no further key or edge is passed
+
+-- a key that the count has passed, and one that it has not
+pub key-passed : (key n m : ℕ) → key < n → n ≤ m → ltb key m ≡ ltb key n
+key-passed key n m h a = lt-ltb key m (omega arith) ∙ sym (lt-ltb key n h)
+
+pub key-ahead : (key n m : ℕ) → n ≤ m → m ≤ key → ltb key m ≡ ltb key n
+key-ahead key n m a b = le-ltb key m b ∙ sym (le-ltb key n (omega arith))
+
+-- the same of an edge
+pub edge-passed : (x p q : ℕ) → x ≤ p → p ≤ q → leb x q ≡ leb x p
+edge-passed x p q h a = le-leb x q (omega arith) ∙ sym (le-leb x p h)
+
+pub edge-ahead : (x p q : ℕ) → p ≤ q → q < x → leb x q ≡ leb x p
+edge-ahead x p q a b = lt-leb x q b ∙ sym (lt-leb x p (omega arith))
+
+-- one function more, up to a bound no higher
+pub stays-more : {A : Type 0} (F : ℕ → ℕ → A) (n k last low : ℕ) → Stays F n k last → low ≤ last
+    → ((m : ℕ) → n ≤ m → m ≤ low → F k m ≡ F k n)
+    → Stays F n (k + 1) low
+stays-more F n k last low before h at j l m a b =
+    by-cases (ltb j k) (λ e. before j (ltb-true j k e) m a (omega arith))
+    (λ e. let g = ltb-false j k e in let here : k ≡ j = omega arith in subst (λ i. F i m ≡ F i n) here (at m a b))
+
+-- six outputs whose keys stay
+pub six-stays : (levels : ℕ) (keys : List ℕ) (n last m : ℕ) → Stays (λ k m. ltb (getD keys k 0) m) n 18 last → n ≤ m → m ≤ last
+    → sixAt levels (rowsOf keys) m ≡ sixAt levels (rowsOf keys) n
+six-stays levels keys n last m stays from to =
+    λ i.
+    row levels 0 (omega arith) i + row (levels / 2) 3 (omega arith) i * 2 + row (levels / 4) 6 (omega arith) i * 4
+    + row (levels / 8) 9 (omega arith) i * 8
+    + row (levels / 16) 12 (omega arith) i * 16
+    + row (levels / 32) 15 (omega arith) i * 32
+  where
+    row : (x k : ℕ) → k + 2 < 18 → flipped x (passed m (threeAt keys k)) ≡ flipped x (passed n (threeAt keys k))
+    row x k h =
+        let a = stays k (omega arith) m from to in
+        let b = stays (k + 1) (omega arith) m from to in
+        let c = stays (k + 2) (omega arith) m from to in
+        λ i. flipped x (bit (a i) + bit (b i) + bit (c i))
+
+-- eight outputs that stay
+pub eight-stays : (t : List Edges) (p last q : ℕ) → Stays (λ k q. edgesAt (getD t k noEdges) q) p 8 last → p ≤ q → q ≤ last
+    → eightAt t q ≡ eightAt t p
+eight-stays t p last q stays from to =
+    let at : (k : ℕ) → k < 8 → edgesAt (getD t k noEdges) q ≡ edgesAt (getD t k noEdges) p = λ k h. stays k h q from to in
+    λ i.
+    at 0 (omega arith) i + at 1 (omega arith) i * 2 + at 2 (omega arith) i * 4 + at 3 (omega arith) i * 8 + at 4 (omega arith) i * 16
+    + at 5 (omega arith) i * 32
+    + at 6 (omega arith) i * 64
+    + at 7 (omega arith) i * 128
+
+-- the levels of the pattern that acts, at its count, are those before masks
+pub side-shows : (r : Ready) (p n : ℕ) (second : Bool) → second ≡ secondBegun (r .second) p → n ≡ countAt r second p
+    → sideAt r second n ≡ unmaskedAt r p
+unfolding sideAt unmaskedAt firstAt secondAt
+side-shows r p n true begun e = ap (sideAt r true) e ∙ rw (sym begun)
+side-shows r p n false begun e = ap (sideAt r false) e ∙ rw (sym begun)
 
 -- ---- the word
 

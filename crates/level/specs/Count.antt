@@ -33,13 +33,7 @@ upTo bound n = cond (ltb n bound) n bound
 abbrev pub passed : ℕ → List ℕ → ℕ
 passed n keys = bit (ltb (getD keys 0 0) n) + bit (ltb (getD keys 1 0) n) + bit (ltb (getD keys 2 0) n)
 
--- six outputs of three toggles each
-abbrev pub three : List ℕ → ℕ → List ℕ
-three l i = getD l i 0 ∷ getD l (i + 1) 0 ∷ getD l (i + 2) 0 ∷ []
-
-abbrev pub rowsOf : List ℕ → List (List ℕ)
-rowsOf l = three l 0 ∷ three l 3 ∷ three l 6 ∷ three l 9 ∷ three l 12 ∷ three l 15 ∷ []
-
+-- the keys of 18 toggles
 abbrev pub keysOf : List ℕ → List ℕ
 keysOf l =
     keyOf (getD l 0 0) ∷ keyOf (getD l 1 0) ∷ keyOf (getD l 2 0) ∷ keyOf (getD l 3 0) ∷ keyOf (getD l 4 0) ∷ keyOf (getD l 5 0)

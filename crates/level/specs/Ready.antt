@@ -1,10 +1,12 @@
--- A line made ready, and what it says at a pixel.
+-- A line made ready, what it says at a pixel, and what it is to keep levels from pixel to pixel.
 -- Assumes nothing.
-use Prim.Native.Nat.{ℕ, _+_, _-_, _*_}
+use Prim.Native.Nat.{ℕ, _+_, _-_, _*_, _<_, _≤_}
+use mathlib.Core.Path.{_≡_}
 use mathlib.Core.List.{List}
 use mathlib.Core.Bool.{Bool, cond, _&&_}
 use lib.ListN.{getD}
 use lib.Dec.{leb}
+use Rattle.profile.specs.Patterns.{rowsOf}
 use Rattle.profile.specs.declared.Mode.{Mode}
 use Rattle.profile.specs.declared.Pattern.{Pattern}
 use Rattle.level.specs.declared.Pulse.{Pulse}
@@ -13,8 +15,9 @@ use Rattle.level.specs.declared.outputs.First.{First}
 use Rattle.level.specs.declared.outputs.Second.{Second}
 use Rattle.level.specs.declared.outputs.Edges.{Edges}
 use Rattle.level.specs.declared.outputs.Ready.{Ready}
+use Rattle.level.specs.declared.outputs.Kept.{Kept}
 use Rattle.level.specs.Word.{bit, flipped, runLevel, timesLevel, firstLevel, secondLevel, shownAt, pulseLevel, spanLevel, six, gateWord}
-use Rattle.level.specs.Count.{runCount, timesCount, countTo, upTo, rowsOf, sixAt}
+use Rattle.level.specs.Count.{runCount, timesCount, countTo, upTo, sixAt}
 
 -- ---- the rules, six or eight outputs at a time
 
@@ -49,6 +52,15 @@ secondAt s p = sixAt (s .levels) (rowsOf (s .keys)) (countTo (p - s .length))
 abbrev pub secondBegun : Second → ℕ → Bool
 secondBegun s p = s .acts && leb (s .length) p
 
+-- the count of the pattern that acts, the second or the first, and V1 to V6 by it
+abbrev pub countAt : Ready → Bool → ℕ → ℕ
+countAt r second p =
+    cond second (countTo (p - r .second .length)) (firstCount (r .first) (r .first .origin + p))
+
+unfoldable pub sideAt : Ready → Bool → ℕ → ℕ
+sideAt r second n =
+    cond second (sixAt (r .second .levels) (rowsOf (r .second .keys)) n) (sixAt (r .first .levels) (rowsOf (r .first .keys)) n)
+
 unfoldable pub unmaskedAt : Ready → ℕ → ℕ
 unmaskedAt r p = cond (secondBegun (r .second) p) (secondAt (r .second) p) (firstAt (r .first) p)
 
@@ -69,5 +81,17 @@ eightAt t p =
     + edgesAt (getD t 6 noEdges) p * 64
     + edgesAt (getD t 7 noEdges) p * 128
 
+-- the word
 unfoldable pub readyWord : Ready → ℕ → ℕ
 readyWord r p = unmaskedAt r (shownAt (r .mask1) (r .mask2) p) + eightAt (r .others) (upTo 65535 p) * 64
+
+-- ---- levels kept from pixel to pixel
+
+-- k functions F 0, F 1 .. are at all numbers from n to `last` what they are at n
+abbrev pub Stays : {A : Type 0} → (ℕ → ℕ → A) → ℕ → ℕ → ℕ → Type 0
+Stays F n k last = (j : ℕ) → j < k → (m : ℕ) → n ≤ m → m ≤ last → F j m ≡ F j n
+
+-- the levels kept are below a bound, and what f is at all numbers from one to another
+pub record Keeps (bound : ℕ) (f : ℕ → ℕ) (k : Kept) : Type 0 where
+  pub small : k .levels < bound
+  pub same : (n : ℕ) → k .from ≤ n → n ≤ k .to → f n ≡ k .levels

@@ -1,21 +1,25 @@
 // The output word at a pixel of a line. A line is made ready once: each toggle becomes a key and each gate, SUBCK and shutter two edges.
 // At a pixel there is then one count for all six V outputs, and a toggle is passed where its key is below the count.
+// Levels are kept from pixel to pixel: V1 to V6 while the count passes the same keys, the other eight outputs up to the next edge.
 use crate::Line;
 use crate::Mask;
 use crate::Pulse;
 use crate::Span;
 use profile::Mode;
 use profile::Pattern;
+use profile::rows_of;
 ghost use Prim.Native.Nat.{ℕ, _+_, _-_, _*_, _^_, _≤_, _<_};
 ghost use mathlib.Core.Path.{_≡_};
+ghost use mathlib.Core.Bool.{true};
 ghost use mathlib.Core.List.{[], _∷_};
 ghost use lib.Dec.{leb, ltb};
-ghost use lib.ListN.{length};
+ghost use lib.ListN.{length, getD};
 ghost use Rattle.profile.specs.Lists.{chunks};
+ghost use Rattle.profile.specs.Patterns.{rowsOf};
 ghost use Rattle.level.specs.Word.{bit, flipped, within, frozen, shownAt, pulseLevel, spanLevel, wordOf};
 ghost use Rattle.level.specs.Fieldwords.{lineWords};
-ghost use Rattle.level.specs.Count.{runCount, keyOf, keysOf, countTo, timesCount, upTo, passed, rowsOf, sixAt};
-ghost use Rattle.level.specs.Ready.{runWord, timesWord, firstWord, secondWord, othersWord, firstCount, firstAt, secondAt, secondBegun, unmaskedAt, edgesAt, eightAt, readyWord};
+ghost use Rattle.level.specs.Count.{runCount, keyOf, keysOf, countTo, timesCount, upTo, passed, sixAt};
+ghost use Rattle.level.specs.Ready.{runWord, timesWord, firstWord, secondWord, othersWord, firstCount, firstAt, secondAt, secondBegun, countAt, sideAt, unmaskedAt, edgesAt, noEdges, eightAt, Stays, Keeps, readyWord};
 
 // The first pattern made ready. `times` says that it is multiplied; in plain its origin is 0.
 struct First {
@@ -50,6 +54,19 @@ struct Ready {
     mask1: Mask,
     mask2: Mask,
     others: [Edges; 8],
+}
+
+// The levels at all numbers from one to another: at the counts of a pattern, or at pixels.
+struct Kept {
+    from: u16,
+    to: u16,
+    levels: u16,
+}
+
+// The levels of V1 to V6 kept, and whether they are the second pattern's.
+struct KeptSix {
+    second: bool,
+    kept: Kept,
 }
 
 // 1 where a key is below the count.
@@ -98,20 +115,6 @@ fn six(levels: u16, keys: [[u16; 3]; 6], n: u16) -> u16
         output(levels / 16, keys[4], n),
         output(levels / 32, keys[5], n),
     )
-}
-
-// 18 toggles, or their keys, as six outputs of three.
-fn rows(t: [u16; 18]) -> [[u16; 3]; 6]
-    ensures { λ r. ⌜ r ≡ rowsOf t ⌝ }
-{
-    [
-        [t[0], t[1], t[2]],
-        [t[3], t[4], t[5]],
-        [t[6], t[7], t[8]],
-        [t[9], t[10], t[11]],
-        [t[12], t[13], t[14]],
-        [t[15], t[16], t[17]],
-    ]
 }
 
 // The pixels of a run.
@@ -188,25 +191,6 @@ fn count(f: First, p: u64) -> u16
     run(f.start, f.length, f.repetitions, q)
 }
 
-// V1 to V6 by the first pattern.
-fn first_at(f: First, p: u64) -> u16
-    ensures { λ r. ⌜ r ≡ firstAt f p ⌝ }
-    ensures { λ r. ⌜ r < 64 ⌝ }
-{
-    let keys = f.keys;
-    six(f.levels, rows(keys), count(f, p))
-}
-
-// V1 to V6 by the second pattern.
-fn second_at(s: Second, p: u64) -> u16
-    requires { ⌜ s .length ≤ p ⌝ }
-    ensures { λ r. ⌜ r ≡ secondAt s p ⌝ }
-    ensures { λ r. ⌜ r < 64 ⌝ }
-{
-    let keys = s.keys;
-    six(s.levels, rows(keys), count_to(p - (s.length as u64)))
-}
-
 // Whether the second pattern has taken over.
 fn begun(s: Second, p: u64) -> bool
     ensures { λ r. ⌜ r ≡ secondBegun s p ⌝ }
@@ -215,19 +199,6 @@ fn begun(s: Second, p: u64) -> bool
         return s.length as u64 <= p;
     }
     false
-}
-
-// V1 to V6 before masks.
-fn unmasked_at(r: Ready, p: u64) -> u16
-    ensures { λ w. ⌜ w ≡ unmaskedAt r p ⌝ }
-    ensures { λ w. ⌜ w < 64 ⌝ }
-{
-    let s = r.second;
-    if begun(s, p) {
-        return second_at(s, p);
-    }
-    let f = r.first;
-    first_at(f, p)
 }
 
 // Whether a pixel is at or after one place and before another.
@@ -331,17 +302,6 @@ fn join(v: u16, e: u16) -> u16
     ensures { λ r. ⌜ r < 2 ^ 14 ⌝ }
 {
     v + e * 64
-}
-
-// The word of a line made ready.
-fn word_at(r: Ready, p: u64) -> u16
-    ensures { λ w. ⌜ w ≡ readyWord r p ⌝ }
-{
-    let a = r.mask1;
-    let b = r.mask2;
-    let v = unmasked_at(r, shown(a, b, p));
-    let t = r.others;
-    join(v, eight(t, line_pixel(p)))
 }
 
 // The key of a toggle where 4095 is unused: the highest number, and the toggles above it move down by one.
@@ -519,14 +479,196 @@ fn prepare(line: Line) -> Ready
     }
 }
 
-// The words of a line made ready, from a pixel on.
+// Whether two answers are one.
+fn alike(a: bool, b: bool) -> bool
+    ensures { λ r. ⌜ (r ≡ true → a ≡ b) ⌝ }
+{
+    if a {
+        return b;
+    }
+    if b {
+        return false;
+    }
+    true
+}
+
+// Whether the levels kept are those at a number.
+fn covers(k: Kept, n: u16) -> bool
+    ensures { λ r. ⌜ (r ≡ true → (k .from ≤ n) × (n ≤ k .to)) ⌝ }
+{
+    if k.from <= n {
+        return n <= k.to;
+    }
+    false
+}
+
+// The bound, or the key where it is lower and n does not pass it: every count from n to there passes the key where n does.
+fn key_bound(key: u16, n: u16, bound: u16) -> u16
+    ensures { λ r. ⌜ (r ≤ bound) × ((m : ℕ) → n ≤ m → m ≤ r → ltb key m ≡ ltb key n) ⌝ }
+{
+    if key < n {
+        return bound;
+    }
+    if key < bound {
+        return key;
+    }
+    bound
+}
+
+// The last count up to which the same of 18 keys are passed as by n.
+fn last_count(keys: [u16; 18], n: u16) -> u16
+    ensures { λ r. ⌜ Stays (λ k m. ltb (getD keys k 0) m) n 18 r ⌝ }
+{
+    let mut last: u16 = 65535;
+    let mut k: usize = 0;
+    while k < 18 {
+        last = key_bound(keys[k], n, last);
+        k += 1;
+    }
+    last
+}
+
+// V1 to V6 at a count, and up to the last count where they are the same.
+fn six_from(levels: u16, keys: [u16; 18], n: u16) -> Kept
+    ensures { λ k. ⌜ Keeps 64 (sixAt levels (rowsOf keys)) k × (k .levels ≡ sixAt levels (rowsOf keys) n) ⌝ }
+{
+    Kept {
+        from: n,
+        to: last_count(keys, n),
+        levels: six(levels, rows_of(keys), n),
+    }
+}
+
+// The same by the second pattern or the first.
+fn side_from(r: Ready, second: bool, n: u16) -> Kept
+    ensures { λ k. ⌜ Keeps 64 (sideAt r second) k × (k .levels ≡ sideAt r second n) ⌝ }
+{
+    if second {
+        let s = r.second;
+        let keys = s.keys;
+        return six_from(s.levels, keys, n);
+    }
+    let f = r.first;
+    let keys = f.keys;
+    six_from(f.levels, keys, n)
+}
+
+// The count at a pixel of the pattern that acts there.
+fn count_at(r: Ready, second: bool, p: u64) -> u16
+    requires { ⌜ second ≡ secondBegun (r .second) p ⌝ }
+    ensures { λ n. ⌜ n ≡ countAt r second p ⌝ }
+{
+    if second {
+        let s = r.second;
+        return count_to(p - (s.length as u64));
+    }
+    let f = r.first;
+    count(f, p)
+}
+
+// V1 to V6 at a pixel before masks: those kept, or new ones.
+fn unmasked(r: Ready, k: KeptSix, p: u64) -> KeptSix
+    requires { ⌜ Keeps 64 (sideAt r (k .second)) (k .kept) ⌝ }
+    ensures { λ v. ⌜ Keeps 64 (sideAt r (v .second)) (v .kept) × (v .kept .levels ≡ unmaskedAt r p) ⌝ }
+{
+    let s = r.second;
+    let second = begun(s, p);
+    let n = count_at(r, second, p);
+    let kept = k.kept;
+    if alike(k.second, second) {
+        if covers(kept, n) {
+            return k;
+        }
+    }
+    let new = side_from(r, second, n);
+    KeptSix {
+        second: second,
+        kept: new,
+    }
+}
+
+// V1 to V6 as the masks let them show.
+fn masked(r: Ready, k: KeptSix, p: u64) -> KeptSix
+    requires { ⌜ Keeps 64 (sideAt r (k .second)) (k .kept) ⌝ }
+    ensures { λ v. ⌜ Keeps 64 (sideAt r (v .second)) (v .kept) × (v .kept .levels ≡ unmaskedAt r (shownAt (r .mask1) (r .mask2) p)) ⌝ }
+{
+    let a = r.mask1;
+    let b = r.mask2;
+    unmasked(r, k, shown(a, b, p))
+}
+
+// The bound, or the last pixel before the edge where that is lower and the edge is after p: every pixel from p to there has reached the edge
+// where p has.
+fn edge_bound(x: u16, p: u16, bound: u16) -> u16
+    ensures { λ r. ⌜ (r ≤ bound) × ((q : ℕ) → p ≤ q → q ≤ r → leb x q ≡ leb x p) ⌝ }
+{
+    if x <= p {
+        return bound;
+    }
+    if x <= bound {
+        return x - 1;
+    }
+    bound
+}
+
+// The same for both edges of an output.
+fn level_bound(e: Edges, p: u16, bound: u16) -> u16
+    ensures { λ r. ⌜ (r ≤ bound) × ((q : ℕ) → p ≤ q → q ≤ r → edgesAt e q ≡ edgesAt e p) ⌝ }
+{
+    edge_bound(e.off, p, edge_bound(e.on, p, bound))
+}
+
+// The last pixel up to which the eight other outputs are as at p.
+fn last_pixel(t: [Edges; 8], p: u16) -> u16
+    ensures { λ r. ⌜ Stays (λ k q. edgesAt (getD t k noEdges) q) p 8 r ⌝ }
+{
+    let mut last: u16 = 65535;
+    let mut k: usize = 0;
+    while k < 8 {
+        last = level_bound(t[k], p, last);
+        k += 1;
+    }
+    last
+}
+
+// The eight other outputs at a pixel: those kept, or new ones.
+fn others(t: [Edges; 8], k: Kept, p: u16) -> Kept
+    requires { ⌜ Keeps 256 (eightAt t) k ⌝ }
+    ensures { λ e. ⌜ Keeps 256 (eightAt t) e × (e .levels ≡ eightAt t p) ⌝ }
+{
+    if covers(k, p) {
+        return k;
+    }
+    Kept {
+        from: p,
+        to: last_pixel(t, p),
+        levels: eight(t, p),
+    }
+}
+
+// The words of a line made ready, from a pixel on. At first nothing is kept.
 fn words(r: Ready, first: u64, out: &mut [u16])
     requires { ⌜ first + length (now out) ≤ 2 ^ 64 ⌝ }
     ensures { λ _. ⌜ now (out .exit) ≡ chunks (length (now (out .entry))) (λ i. readyWord r (first + i) ∷ []) ⌝ }
 {
+    let t = r.others;
+    let none = Kept {
+        from: 1,
+        to: 0,
+        levels: 0,
+    };
+    let mut v = KeptSix {
+        second: false,
+        kept: none,
+    };
+    let mut e = none;
     let mut i: usize = 0;
     while i < out.len() {
-        out[i] = word_at(r, first + i as u64);
+        let p = first + i as u64;
+        v = masked(r, v, p);
+        e = others(t, e, line_pixel(p));
+        let six = v.kept;
+        out[i] = join(six.levels, e.levels);
         i += 1;
     }
 }

@@ -6,8 +6,9 @@ use borrow.Author.Needs.{needs}
 use lib.ListN.{getD}
 use mir.Syntax.{w16}
 use mir.Val.{Fits}
+use Rattle.profile.specs.Patterns.{rowsOf}
 use Rattle.level.specs.Ready.{secondWord, secondAt}
-use Rattle.level.specs.Count.{countTo, rowsOf, sixAt}
+use Rattle.level.specs.Count.{countTo, sixAt}
 use Rattle.level.proofs.Counting.{Small, second-word}
 use Rattle.level.proofs.outputs.second_of.Statement.{statement}
 use Rattle.level.proofs.outputs.second_of.Tie as tie

@@ -3,6 +3,7 @@
 use Prim.Native.Nat.{_+_, _%_}
 use mathlib.Core.Path.{_∙_}
 use borrow.Author.Needs.{needs}
+use lib.Dec.{leb}
 use Rattle.level.specs.Count.{upTo}
 use Rattle.level.proofs.Counting.{edges-act, edges-rest, span-turns, span-none}
 use Rattle.level.proofs.outputs.span_edges.Statement.{statement}
@@ -20,7 +21,7 @@ returns c =
 returns-2 : tie.Need-returns-2
 returns-2 c =
     let s = c .before .before .before .args .s in
-    λ p. edges-rest (s .level % 2 + 1) (upTo 65535 p) ∙ span-none (s .level) (s .from) (s .to) p (c .if1 .left)
+    λ p. edges-rest (s .level % 2 + 1) (leb 0 (upTo 65535 p)) ∙ span-none (s .level) (s .from) (s .to) p (c .if1 .left)
 
 pub span-edges-spec : {M : Type 1} → statement M
 span-edges-spec = tie.close (tie.spec add-level returns returns-2)

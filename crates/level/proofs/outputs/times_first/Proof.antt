@@ -6,8 +6,9 @@ use borrow.Author.Needs.{needs}
 use lib.ListN.{getD}
 use mir.Syntax.{w16}
 use mir.Val.{Fits}
+use Rattle.profile.specs.Patterns.{rowsOf}
 use Rattle.level.specs.Ready.{timesWord, firstAt, firstCount}
-use Rattle.level.specs.Count.{timesCount, rowsOf, sixAt}
+use Rattle.level.specs.Count.{timesCount, sixAt}
 use Rattle.level.proofs.Counting.{Small, times-word}
 use Rattle.level.proofs.outputs.times_first.Statement.{statement}
 use Rattle.level.proofs.outputs.times_first.Tie as tie

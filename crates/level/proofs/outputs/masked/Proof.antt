@@ -1,0 +1,22 @@
+-- The unmasked levels at the pixel that shows.
+-- Assumes nothing.
+use mathlib.Core.Path.{_∙_, ap}
+use borrow.Author.Needs.{needs}
+use Rattle.level.specs.Ready.{unmaskedAt}
+use Rattle.level.proofs.outputs.masked.Statement.{statement}
+use Rattle.level.proofs.outputs.masked.Tie as tie
+
+shown-requires : tie.Need-shown-requires
+shown-requires c κs = search needs
+
+unmasked-requires : tie.Need-unmasked-requires
+unmasked-requires c κs = search needs
+
+returns : tie.Need-returns
+returns c =
+    let r = c .before .before .before .before .args .r in
+    let v = c .unmasked .ensures in
+    (v .0, v .1 ∙ ap (unmaskedAt r) (c .before .shown .ensures))
+
+pub masked-spec : {M : Type 1} → statement M
+masked-spec = tie.close (tie.spec shown-requires unmasked-requires returns)

@@ -1,0 +1,55 @@
+-- Levels kept for the pattern that acts and its count are the pixel's, and so are new ones at that count.
+-- Assumes nothing.
+use mathlib.Core.Path.{_∙_, sym, ap}
+use borrow.Author.Needs.{needs}
+use Rattle.level.specs.Ready.{sideAt}
+use Rattle.level.proofs.Counting.{side-shows}
+use Rattle.level.proofs.outputs.unmasked.Statement.{statement}
+use Rattle.level.proofs.outputs.unmasked.Tie as tie
+
+begun-requires : tie.Need-begun-requires
+begun-requires c κs = search needs
+
+count-at-requires : tie.Need-count-at-requires
+count-at-requires c κs = search needs
+
+alike-requires : tie.Need-alike-requires
+alike-requires c κs = search needs
+
+covers-requires : tie.Need-covers-requires
+covers-requires c κs = search needs
+
+returns : tie.Need-returns
+returns c =
+    let n = c .before .before .before .before .before .count-at in
+    let b = c .before .before .before .before .before .before .begun in
+    let s = c .before .before .before .before .before .before .before .before in
+    let in-range = c .before .covers .ensures (c .if2 .taken) in (
+      s .pre,
+      sym (s .pre .same (n .result) (in-range .0) (in-range .1))
+          ∙ ap (λ second. sideAt (s .args .r) second (n .result)) (c .before .before .before .alike .ensures (c .before .before .if1 .taken))
+          ∙ side-shows (s .args .r) (s .args .p) (n .result) (b .result) (b .ensures) (n .ensures),
+    )
+
+side-from-requires : tie.Need-side-from-requires
+side-from-requires c κs = search needs
+
+returns-2 : tie.Need-returns-2
+returns-2 c =
+    let n = c .before .before .before .before .count-at in
+    let b = c .before .before .before .before .before .begun in
+    let a = c .before .before .before .before .before .before .before .args in
+    let v = c .side-from .ensures in
+    (v .0, v .1 ∙ side-shows (a .r) (a .p) (n .result) (b .result) (b .ensures) (n .ensures))
+
+pub unmasked-spec : {M : Type 1} → statement M
+unmasked-spec =
+    tie.close
+    (tie.spec
+    begun-requires
+    count-at-requires
+    alike-requires
+    covers-requires
+    returns
+    side-from-requires
+    returns-2)
