@@ -20,19 +20,19 @@ pub(crate) fn least(a: usize, b: usize) -> usize
 }
 
 // A number at the front of a list, where the list has a place.
-fn put_count(s: &mut [u32], v: u32)
-    ensures { λ _. ⌜ now (s .exit) ≡ lay (v ∷ []) (now (s .entry)) ⌝ }
+fn put_count(counts: &mut [u32], count: u32)
+    ensures { λ _. ⌜ now (counts .exit) ≡ lay (count ∷ []) (now (counts .entry)) ⌝ }
 {
-    if 0 < s.len() {
-        s[0] = v;
+    if 0 < counts.len() {
+        counts[0] = count;
     }
 }
 
-fn put_word(s: &mut [u16], v: u16)
-    ensures { λ _. ⌜ now (s .exit) ≡ lay (v ∷ []) (now (s .entry)) ⌝ }
+fn put_word(words: &mut [u16], word: u16)
+    ensures { λ _. ⌜ now (words .exit) ≡ lay (word ∷ []) (now (words .entry)) ⌝ }
 {
-    if 0 < s.len() {
-        s[0] = v;
+    if 0 < words.len() {
+        words[0] = word;
     }
 }
 

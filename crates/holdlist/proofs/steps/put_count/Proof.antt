@@ -6,17 +6,17 @@ use Rattle.holdlist.proofs.Fills.{lay-one, lay-full}
 use Rattle.holdlist.proofs.steps.put_count.Statement.{statement}
 use Rattle.holdlist.proofs.steps.put_count.Tie as tie
 
-slice-write-s : tie.Need-slice-write-s
-slice-write-s c = search needs
+slice-write-counts : tie.Need-slice-write-counts
+slice-write-counts c = search needs
 
 same-length : tie.Need-same-length
 same-length c = search needs
 
 returns : tie.Need-returns
-returns c = lay-one (c .before .args .s .now) (c .before .args .v)
+returns c = lay-one (c .before .args .counts .now) (c .before .args .count)
 
 returns-2 : tie.Need-returns-2
-returns-2 c = lay-full (c .before .args .v ∷ []) (c .before .args .s .now) (c .if1 .left)
+returns-2 c = lay-full (c .before .args .count ∷ []) (c .before .args .counts .now) (c .if1 .left)
 
 pub put-count-spec : {M : Type 1} → statement M
-put-count-spec = tie.close (tie.spec slice-write-s same-length returns returns-2)
+put-count-spec = tie.close (tie.spec slice-write-counts same-length returns returns-2)

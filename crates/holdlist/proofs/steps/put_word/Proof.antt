@@ -6,17 +6,17 @@ use Rattle.holdlist.proofs.Fills.{lay-one, lay-full}
 use Rattle.holdlist.proofs.steps.put_word.Statement.{statement}
 use Rattle.holdlist.proofs.steps.put_word.Tie as tie
 
-slice-write-s : tie.Need-slice-write-s
-slice-write-s c = search needs
+slice-write-words : tie.Need-slice-write-words
+slice-write-words c = search needs
 
 same-length : tie.Need-same-length
 same-length c = search needs
 
 returns : tie.Need-returns
-returns c = lay-one (c .before .args .s .now) (c .before .args .v)
+returns c = lay-one (c .before .args .words .now) (c .before .args .word)
 
 returns-2 : tie.Need-returns-2
-returns-2 c = lay-full (c .before .args .v ∷ []) (c .before .args .s .now) (c .if1 .left)
+returns-2 c = lay-full (c .before .args .word ∷ []) (c .before .args .words .now) (c .if1 .left)
 
 pub put-word-spec : {M : Type 1} → statement M
-put-word-spec = tie.close (tie.spec slice-write-s same-length returns returns-2)
+put-word-spec = tie.close (tie.spec slice-write-words same-length returns returns-2)
