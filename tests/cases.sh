@@ -33,6 +33,8 @@ compare() {
 }
 
 build reference "$work/target"
+# its own tests: W cases by hand, and that the stored batch has every number of refusal
+(cd reference && CARGO_TARGET_DIR=$work/target timeout 600 cargo test --release --offline --quiet) > "$work/tests" 2>&1 || fail "the second implementation's own tests: $(tail -n 3 "$work/tests")"
 seed=${CASES_SEED:-$(od -An -N4 -tu4 /dev/urandom | tr -d ' ')}
 echo "cases: seed $seed"
 "$work/target/release/batch" stored > "$work/stored.batch" || fail "no stored batch"
