@@ -2,6 +2,7 @@
 ghost use mathlib.Core.Path.{_≡_};
 ghost use Prim.Native.Nat.{_≤_};
 ghost use lib.ListN.{length, take};
+ghost use Rattle.holdlist.specs.Prints.{Prints};
 ghost use Rattle.holdlist.specs.Text.{printed};
 use inlet::Input;
 use libc::STDERR_FILENO;
@@ -39,6 +40,7 @@ fn put_answer(script: &[u8], out: &mut [u8]) -> usize
     requires { ⌜ length (now out) ≡ 65600 ⌝ }
     ensures { λ r. ⌜ r ≤ 65600 ⌝ }
     ensures { λ r. ⌜ take r (now (out .exit)) ≡ printed (now (script .entry)) ⌝ }
+    ensures { λ r. ⌜ Prints (now (script .entry)) (take r (now (out .exit))) ⌝ }
 {
     let answer = profile::read(script);
     let verdict = answer.verdict;

@@ -1,4 +1,5 @@
--- W1 to W12 as one table of questions and answers under one statement, which antt computes from the definitions.
+-- W1 to W12 as one table of questions and answers under one statement, and the least and the most bytes of a written script, which antt computes from
+-- the definitions.
 -- Assumes nothing.
 use Prim.Native.Nat.{ℕ, _+_, _*_, _/_, _%_, _^_}
 use mathlib.Core.Path.{_≡_, refl}
@@ -43,6 +44,7 @@ use Rattle.profile.specs.Script.{
   records,
   readScript,
 }
+use Rattle.profile.specs.Writing.{writeScript, writeAnswer}
 use Rattle.profile.specs.declared.Profile.{Profile}
 use Rattle.profile.specs.declared.Verdict.{Verdict}
 use Rattle.level.specs.Line.{lineWith, noLine, lineOf}
@@ -50,7 +52,8 @@ use Rattle.level.specs.Word.{vWord, gateWord, wordOf}
 use Rattle.level.specs.Fieldwords.{lineWords, fieldWords}
 use Rattle.level.specs.Place.{levelAnswer}
 use Rattle.holdlist.specs.Runs.{flush, pushed, shut, opened, closed, runs}
-use Rattle.holdlist.specs.Compile.{roomOf, compileVerdict, compileAnswer, compileCounts, compileWords}
+use Rattle.holdlist.specs.Compile.{roomOf, holdVerdict, holdAnswer, holdCounts, holdWords, compileAnswer, compileCounts, compileWords}
+use Rattle.holdlist.specs.Text.{leadingIn, leading, decimal, headLine, stepLine, listing, told, printedOf, printed}
 
 -- ---- what can be asked of a script
 
@@ -65,6 +68,10 @@ pub data Question : Type 0 where
   level : ℕ → ℕ → Question
   -- compiled into lent lists: number, place, steps, pixels; counts and words as they are left
   compile : List ℕ → List ℕ → Question
+  -- the text that is printed
+  print : Question
+  -- written into a lent slice of so many bytes: number, place, length
+  write : ℕ → Question
 
 abbrev verdict : Verdict → List ℕ
 verdict v = v .number ∷ v .place ∷ []
@@ -84,6 +91,8 @@ ask s (compile cs ws) =
     ∷ compileCounts (profileOf s) (roomOf cs ws) cs
     ∷ compileWords (profileOf s) (roomOf cs ws) ws
     ∷ []
+ask s print = printed s ∷ []
+ask s (write room) = (verdict (writeAnswer (profileOf s) room .verdict) ++ (writeAnswer (profileOf s) room .length ∷ [])) ∷ []
 
 -- ---- the scripts
 
@@ -104,9 +113,12 @@ pattern word0 word1 = register 0 word0 ++ register 1 word1
 abbrev pair : ℕ → ℕ → List ℕ
 pair freeze resume = register 10 (freeze + 4096 * resume)
 
--- sequence 0 over pattern 0: line length 10; start, repetitions on odd and on even lines, mask
+-- a sequence over pattern 0: line length 10; start, repetitions on odd and on even lines, mask
+abbrev sequenceAt : ℕ → ℕ → ℕ → ℕ → ℕ → List ℕ
+sequenceAt k start odd even mask = twoBytes (14 ∷ 2 ∷ k ∷ 0 ∷ 10 ∷ start ∷ odd ∷ even ∷ mask ∷ [])
+
 abbrev sequence : ℕ → ℕ → ℕ → ℕ → List ℕ
-sequence start odd even mask = twoBytes (14 ∷ 2 ∷ 0 ∷ 0 ∷ 10 ∷ start ∷ odd ∷ even ∷ mask ∷ [])
+sequence start odd even mask = sequenceAt 0 start odd even mask
 
 -- a field of one region, of so many lines, in a mode; the last line has length 10 too, gate line 0, no second pattern
 abbrev field : ℕ → ℕ → List ℕ
@@ -124,6 +136,15 @@ sweep times = pattern 0x004001 0x003001 ++ unused ++ sequence 2 times times 0 ++
 
 abbrev multiplier : ℕ → List ℕ
 multiplier times = pattern 0x004000 0x005002 ++ unused ++ sequence 1 times times 0 ++ field 3 2
+
+-- A with every item that a profile has: ten sequences, seven regions of two lines, five gates, SUBCK, both shutters
+abbrev full : List ℕ
+full =
+    pattern 0x004001 0x003001 ++ unused ++ chunks 10 (λ k. sequenceAt k 2 1 2 0)
+    ++ twoBytes (52 ∷ 3 ∷ 14 ∷ 10 ∷ 0 ∷ 65535 ∷ 7 ∷ []) ++ chunks 7 (λ i. twoBytes (2 * i ∷ 0 ∷ 0 ∷ []))
+    ++ chunks 5 (λ k. twoBytes (10 ∷ 4 ∷ k ∷ 1 ∷ 1 ∷ 2 ∷ 5 ∷ []))
+    ++ twoBytes (10 ∷ 5 ∷ 1 ∷ 2 ∷ 5 ∷ 1 ∷ 1 ∷ [])
+    ++ chunks 2 (λ k. twoBytes (12 ∷ 6 ∷ k ∷ 1 ∷ 0 ∷ 0 ∷ 1 ∷ 0 ∷ []))
 
 -- the bytes of A's sequence and field as document 01 prints them
 pub as-printed :
@@ -143,10 +164,33 @@ pub record Case : Type 0 where
 abbrev case : List ℕ → Question → List (List ℕ) → Case
 case s q r = record { script = s; question = q; answer = r }
 
+-- W1: "A prints, whole"
+abbrev w1 : List ℕ
+w1 =
+    -- steps 7 pixels 20
+    0x73 ∷ 0x74 ∷ 0x65 ∷ 0x70 ∷ 0x73 ∷ 0x20 ∷ 0x37 ∷ 0x20 ∷ 0x70 ∷ 0x69 ∷ 0x78 ∷ 0x65 ∷ 0x6C ∷ 0x73 ∷ 0x20 ∷ 0x32 ∷ 0x30 ∷ 0x0A ∷
+    -- 3 0FC1
+    0x33 ∷ 0x20 ∷ 0x30 ∷ 0x46 ∷ 0x43 ∷ 0x31 ∷ 0x0A ∷
+    -- 2 0FC0
+    0x32 ∷ 0x20 ∷ 0x30 ∷ 0x46 ∷ 0x43 ∷ 0x30 ∷ 0x0A ∷
+    -- 8 0FC1
+    0x38 ∷ 0x20 ∷ 0x30 ∷ 0x46 ∷ 0x43 ∷ 0x31 ∷ 0x0A ∷
+    -- 2 0FC0
+    0x32 ∷ 0x20 ∷ 0x30 ∷ 0x46 ∷ 0x43 ∷ 0x30 ∷ 0x0A ∷
+    -- 2 0FC1
+    0x32 ∷ 0x20 ∷ 0x30 ∷ 0x46 ∷ 0x43 ∷ 0x31 ∷ 0x0A ∷
+    -- 2 0FC0
+    0x32 ∷ 0x20 ∷ 0x30 ∷ 0x46 ∷ 0x43 ∷ 0x30 ∷ 0x0A ∷
+    -- 1 0FC1
+    0x31 ∷ 0x20 ∷ 0x30 ∷ 0x46 ∷ 0x43 ∷ 0x31 ∷ 0x0A ∷
+    []
+
 pub table : List Case
 table =
     -- W1
-    case a (compile (replicate 8 9) (replicate 8 9))
+    case a print
+    (w1 ∷ [])
+    ∷ case a (compile (replicate 8 9) (replicate 8 9))
     ((0 ∷ 0 ∷ 7 ∷ 20 ∷ [])
     ∷ (3 ∷ 2 ∷ 8 ∷ 2 ∷ 2 ∷ 2 ∷ 1 ∷ 9 ∷ [])
     ∷ (0x0FC1 ∷ 0x0FC0 ∷ 0x0FC1 ∷ 0x0FC0 ∷ 0x0FC1 ∷ 0x0FC0 ∷ 0x0FC1 ∷ 9 ∷ []) ∷ [])
@@ -172,8 +216,12 @@ table =
     ∷ case a (compile (replicate 6 9) (replicate 8 9)) ((18 ∷ 7 ∷ 0 ∷ 0 ∷ []) ∷ replicate 6 9 ∷ replicate 8 9 ∷ [])
     -- W12
     ∷ case a (level 1 10) ((19 ∷ 0 ∷ 0 ∷ []) ∷ [])
+    -- "at most 1,312 bytes, at least 998": both are reached
+    ∷ case a (write 998) ((0 ∷ 0 ∷ 998 ∷ []) ∷ [])
+    ∷ case full (write 1312) ((0 ∷ 0 ∷ 1312 ∷ []) ∷ [])
+    ∷ case full (write 1311) ((18 ∷ 1312 ∷ 0 ∷ []) ∷ [])
     ∷ []
 
 pub cases : map (λ (c : Case). ask (c .script) (c .question)) table ≡ map (λ (c : Case). c .answer) table
-unfolding ask table all chunks sum lastStart emptyField emptyTables patternOf toggleFault highestUsed endLine regionOf lengthIn lineLength regionPixels pixelsBefore pixelCount hasPixel sequenceIn regionIn fieldIn gateIn subckIn shutterIn inRange firstBroken startsRight togglesRight pairsRight maskRight countsRight endsRight secondRight gateRight subckRight shutterRight entriesAt lineEntries rulesOf judge checkProfile registerFits sequenceFits fieldFrom fieldFits gateFits subckFits shutterFits allowed fits put step records readScript lineWith noLine lineOf vWord gateWord wordOf lineWords fieldWords levelAnswer flush pushed shut opened closed runs compileVerdict compileAnswer compileCounts compileWords
+unfolding ask table writeScript writeAnswer leadingIn leading decimal headLine stepLine listing told printedOf printed all chunks sum lastStart emptyField emptyTables patternOf toggleFault highestUsed endLine regionOf lengthIn lineLength regionPixels pixelsBefore pixelCount hasPixel sequenceIn regionIn fieldIn gateIn subckIn shutterIn inRange firstBroken startsRight togglesRight pairsRight maskRight countsRight endsRight secondRight gateRight subckRight shutterRight entriesAt lineEntries rulesOf judge checkProfile registerFits sequenceFits fieldFrom fieldFits gateFits subckFits shutterFits allowed fits put step records readScript lineWith noLine lineOf vWord gateWord wordOf lineWords fieldWords levelAnswer flush pushed shut opened closed runs holdVerdict holdAnswer holdCounts holdWords compileAnswer compileCounts compileWords
 cases = refl

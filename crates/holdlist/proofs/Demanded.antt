@@ -1,15 +1,16 @@
--- Compiling meets what is demanded of it: the list it leaves is the runs of the field's words, which is the shortest that plays the field.
--- A list plays the field exactly where it plays the field's words; what compiling answers is told by its tests, case by case.
+-- Demand 3 of any list of words: the list that is left is the runs of the words, which is the shortest that plays them, and what is answered
+-- is told by its tests, case by case. A field's words are one such list, so compiling meets it for every accepted profile; and to play them is
+-- to show each line's pixels.
 -- Assumes nothing.
-use Prim.Native.Nat.{ℕ, _≤_, _<_, _^_, min}
-use native.Mathlib.Nat.{le-trans}
+use Prim.Native.Nat.{ℕ, _≤_, _<_, _^_}
 use native.Mathlib.Omega.{arith}
 use mathlib.Core.Path.{_≡_, refl, sym, ap, _∙_}
+use mathlib.Core.Logic.{_↔_}
 use mathlib.Core.List.{List}
-use mathlib.Core.Bool.{true, false, false≢true}
-use lib.ListN.{length, getD, List·getD-eq-default}
-use lib.Dec.{ltb, leb, lit≤}
-use borrow.Author.Tests.{le-leb, lt-leb, leb-true, leb-false, ltb-true, ltb-false, eqb-false}
+use mathlib.Core.Bool.{true, false}
+use lib.ListN.{length, getD}
+use lib.Dec.{leb}
+use borrow.Author.Tests.{le-leb, lt-leb, leb-true, leb-false}
 use Rattle.profile.specs.Lists.{over}
 use Rattle.profile.specs.Values.{accepted, refused, accepts}
 use Rattle.profile.specs.Geometry.{pixelCount, hasPixel}
@@ -17,273 +18,219 @@ use Rattle.profile.specs.Rules.{checkProfile}
 use Rattle.profile.specs.declared.Tables.{Tables}
 use Rattle.profile.specs.declared.Field.{Field}
 use Rattle.profile.specs.declared.Profile.{Profile}
+use Rattle.profile.specs.declared.Verdict.{Verdict}
 use Rattle.profile.proofs.Laws.{by-cases}
-use Rattle.profile.proofs.Checked.{check-range}
-use Rattle.profile.proofs.Accepted.{accepted-exactly}
-use Rattle.profile.proofs.Lines.{pixels-most}
-use Rattle.level.proofs.Words.{word-small, field-words-length, field-word, place-below, line-at-place, pixel-at-place}
+use Rattle.profile.proofs.Lines.{has-line, has-pixel}
+use Rattle.level.proofs.Words.{field-words-length, field-words-small, field-word, field-word-at, place-below}
 use Rattle.level.specs.Line.{lineOf}
 use Rattle.level.specs.Word.{wordOf}
-use Rattle.level.specs.Place.{lineAt, pixelAt, placeOf}
+use Rattle.level.specs.Place.{placeOf}
 use Rattle.level.specs.Fieldwords.{fieldWords}
-use Rattle.holdlist.specs.declared.Step.{Step}
 use Rattle.holdlist.specs.declared.Compiled.{Compiled}
-use Rattle.holdlist.specs.declared.Played.{Played}
 use Rattle.holdlist.specs.Play.{playAnswer, shown, notShown}
 use Rattle.holdlist.specs.Runs.{runs, countsOf, wordsOf}
-use Rattle.holdlist.specs.Compile.{fieldRuns, roomOf, compileVerdict, compileAnswer, compileCounts, compileWords}
-use Rattle.holdlist.specs.Demand.{Plays, Fewest, Demand}
+use Rattle.holdlist.specs.Compile.{
+  roomOf,
+  holdVerdict,
+  holdAnswer,
+  holdCounts,
+  holdWords,
+  profileWords,
+  fieldRuns,
+  compileAnswer,
+  compileCounts,
+  compileWords,
+}
+use Rattle.holdlist.specs.Demand.{Plays, PlaysField, Fewest, Demand}
 use Rattle.holdlist.proofs.Runs.{over-rest, runs-fit}
-use Rattle.holdlist.proofs.Shortest.{PlaysWords, no-fewer, counts-many, words-many, encoded, encoded-whole}
+use Rattle.holdlist.proofs.Shortest.{ends-after, no-fewer, counts-many, words-many, encoded, encoded-whole}
+use Rattle.holdlist.proofs.FieldLoops.{few-pixels}
 
--- ---- what compiling answers and leaves, by cases
+-- ---- what is answered and left, by cases
 
--- the answer r, and the lists cs and ws, which are cs′ and ws′ then
+-- the answers: nothing is held, nothing for want of room, and all
+abbrev pub unheld : Verdict → Compiled
+unheld v = record { verdict = v; steps = 0; pixels = 0 }
+
+abbrev pub noRoom : List ℕ → Compiled
+noRoom xs = unheld (refused 18 (length (runs xs)))
+
+abbrev pub held : List ℕ → Compiled
+held xs = record { verdict = accepted; steps = length (runs xs); pixels = length xs }
+
+-- the answer r where the lists are cs and ws, which are cs′ and ws′ then: of words, and of a profile's field
+abbrev pub Holds : (xs cs ws : List ℕ) (r : Compiled) (cs′ ws′ : List ℕ) → Type 0
+Holds xs cs ws r cs′ ws′ =
+    (r ≡ holdAnswer xs (roomOf cs ws)) × (cs′ ≡ holdCounts xs (roomOf cs ws) cs) × (ws′ ≡ holdWords xs (roomOf cs ws) ws)
+
 abbrev pub Compiles : (p : Profile) (cs ws : List ℕ) (r : Compiled) (cs′ ws′ : List ℕ) → Type 0
 Compiles p cs ws r cs′ ws′ =
-    (compileAnswer p (roomOf cs ws) ≡ r) × (compileCounts p (roomOf cs ws) cs ≡ cs′) × (compileWords p (roomOf cs ws) ws ≡ ws′)
+    (r ≡ compileAnswer p (roomOf cs ws)) × (cs′ ≡ compileCounts p (roomOf cs ws) cs) × (ws′ ≡ compileWords p (roomOf cs ws) ws)
+
+module _ (xs cs ws : List ℕ) where
+  pub hold-short : roomOf cs ws < length (runs xs) → Holds xs cs ws (noRoom xs) cs ws
+  unfolding holdVerdict holdAnswer holdCounts holdWords
+  hold-short h = let e = lt-leb (length (runs xs)) (roomOf cs ws) h in (rw e, rw e, rw e)
+
+  pub hold-fits :
+      length (runs xs) ≤ roomOf cs ws → Holds xs cs ws (held xs) (over (countsOf (runs xs)) cs) (over (wordsOf (runs xs)) ws)
+  unfolding holdVerdict holdAnswer holdCounts holdWords
+  hold-fits h = let e = le-leb (length (runs xs)) (roomOf cs ws) h in (rw e, rw e, rw e)
+
+  -- a claim of what is answered and left, by the two
+  pub hold-cases :
+      (P : Compiled → List ℕ → List ℕ → Type 0) →
+      (roomOf cs ws < length (runs xs) → P (noRoom xs) cs ws) →
+      (length (runs xs) ≤ roomOf cs ws → P (held xs) (over (countsOf (runs xs)) cs) (over (wordsOf (runs xs)) ws)) →
+      P (holdAnswer xs (roomOf cs ws)) (holdCounts xs (roomOf cs ws) cs) (holdWords xs (roomOf cs ws) ws)
+  hold-cases P short fits =
+      by-cases (leb (length (runs xs)) (roomOf cs ws))
+      (λ e.
+      let h = leb-true (length (runs xs)) (roomOf cs ws) e in
+      let c = hold-fits h in
+      rw (← c .0, ← c .1, ← c .2) (fits h))
+      (λ e.
+      let h = leb-false (length (runs xs)) (roomOf cs ws) e in
+      let c = hold-short h in
+      rw (← c .0, ← c .1, ← c .2) (short h))
 
 module _ (p : Profile) (cs ws : List ℕ) where
   -- the check's refusal
-  pub compile-refused : accepts (checkProfile p) ≡ false → Compiles p cs ws (record { verdict = checkProfile p; steps = 0; pixels = 0 }) cs ws
-  unfolding compileVerdict compileAnswer compileCounts compileWords
-  compile-refused e = (rw (e, e), rw (e, e), rw (e, e))
+  pub compile-refused : accepts (checkProfile p) ≡ false → Compiles p cs ws (unheld (checkProfile p)) cs ws
+  unfolding compileAnswer compileCounts compileWords
+  compile-refused e = (rw e, rw e, rw e)
 
   module _ (ok : accepts (checkProfile p) ≡ true) where
-    -- 18
-    pub compile-short :
-        roomOf cs ws < length (fieldRuns p) →
-        Compiles p cs ws (record { verdict = refused 18 (length (fieldRuns p)); steps = 0; pixels = 0 }) cs ws
-    unfolding compileVerdict compileAnswer compileCounts compileWords
-    compile-short h =
-        let e = lt-leb (length (fieldRuns p)) (roomOf cs ws) h in
-        (rw (ok, e), rw (ok, e), rw (ok, e))
+    compile-held :
+        Compiles p cs ws (holdAnswer (profileWords p) (roomOf cs ws)) (holdCounts (profileWords p) (roomOf cs ws) cs)
+        (holdWords (profileWords p) (roomOf cs ws) ws)
+    unfolding compileAnswer compileCounts compileWords
+    compile-held = (rw ok, rw ok, rw ok)
+
+    pub compile-short : roomOf cs ws < length (fieldRuns p) → Compiles p cs ws (noRoom (profileWords p)) cs ws
+    compile-short h = let c = compile-held in rw (← c .0, ← c .1, ← c .2) (hold-short (profileWords p) cs ws h)
 
     pub compile-fits :
         length (fieldRuns p) ≤ roomOf cs ws →
-        Compiles p cs ws (record { verdict = accepted; steps = length (fieldRuns p); pixels = pixelCount (p .tables) (p .field) })
-        (over (countsOf (fieldRuns p)) cs) (over (wordsOf (fieldRuns p)) ws)
-    unfolding compileVerdict compileAnswer compileCounts compileWords
-    compile-fits h =
-        let e = le-leb (length (fieldRuns p)) (roomOf cs ws) h in
-        (rw (ok, e), rw (ok, e), rw (ok, e))
+        Compiles p cs ws (held (profileWords p)) (over (countsOf (fieldRuns p)) cs) (over (wordsOf (fieldRuns p)) ws)
+    compile-fits h = let c = compile-held in rw (← c .0, ← c .1, ← c .2) (hold-fits (profileWords p) cs ws h)
 
-  -- a claim of what compiling answers and leaves, by the three
   pub compile-cases :
       (P : Compiled → List ℕ → List ℕ → Type 0) →
-      (accepts (checkProfile p) ≡ false → P (record { verdict = checkProfile p; steps = 0; pixels = 0 }) cs ws) →
-      (accepts (checkProfile p) ≡ true → roomOf cs ws < length (fieldRuns p) →
-      P (record { verdict = refused 18 (length (fieldRuns p)); steps = 0; pixels = 0 }) cs ws) →
+      (accepts (checkProfile p) ≡ false → P (unheld (checkProfile p)) cs ws) →
+      (accepts (checkProfile p) ≡ true → roomOf cs ws < length (fieldRuns p) → P (noRoom (profileWords p)) cs ws) →
       (accepts (checkProfile p) ≡ true → length (fieldRuns p) ≤ roomOf cs ws →
-      P (record { verdict = accepted; steps = length (fieldRuns p); pixels = pixelCount (p .tables) (p .field) })
-      (over (countsOf (fieldRuns p)) cs) (over (wordsOf (fieldRuns p)) ws)) →
+      P (held (profileWords p)) (over (countsOf (fieldRuns p)) cs) (over (wordsOf (fieldRuns p)) ws)) →
       P (compileAnswer p (roomOf cs ws)) (compileCounts p (roomOf cs ws) cs) (compileWords p (roomOf cs ws) ws)
   compile-cases P wrong short fits =
       by-cases (accepts (checkProfile p))
       (λ ok.
-      by-cases (leb (length (fieldRuns p)) (roomOf cs ws))
-      (λ e.
-      let h = leb-true (length (fieldRuns p)) (roomOf cs ws) e in
-      let c = compile-fits ok h in
-      rw (c .0, c .1, c .2) (fits ok h))
-      (λ e.
-      let h = leb-false (length (fieldRuns p)) (roomOf cs ws) e in
-      let c = compile-short ok h in
-      rw (c .0, c .1, c .2) (short ok h)))
-      (λ e. let c = compile-refused e in rw (c .0, c .1, c .2) (wrong e))
+      let c = compile-held ok in
+      rw (← c .0, ← c .1, ← c .2) (hold-cases (profileWords p) cs ws P (short ok) (fits ok)))
+      (λ e. let c = compile-refused e in rw (← c .0, ← c .1, ← c .2) (wrong e))
 
--- ---- playing a field is playing its words
+-- ---- the runs are the fewest
 
--- the runs of a field's words
-abbrev pub runsOf : Tables → Field → List Step
-runsOf t f = runs (fieldWords t f)
+pub fewest-steps : (xs : List ℕ) (k : ℕ) → Fewest xs k → k ≡ length (runs xs)
+fewest-steps xs k m = omega (arith, m .least _ _ _ (encoded-whole xs), no-fewer xs (m .counts) (m .words) k (m .reached))
 
--- of a field's words: how many there are, which they are, and that a u16 holds each
-pub record Worded (t : Tables) (f : Field) : Type 0 where
-  pub count : length (fieldWords t f) ≡ pixelCount t f
-  pub at : (n : ℕ) → n < pixelCount t f → getD (fieldWords t f) n 0 ≡ wordOf (lineOf t f (lineAt t f n)) (pixelAt t f n)
-  pub small : (n : ℕ) → n < pixelCount t f → wordOf (lineOf t f (lineAt t f n)) (pixelAt t f n) < 2 ^ 16
+pub fewest-there : (xs : List ℕ) → length xs < 2 ^ 32 → ((i : ℕ) → getD xs i 0 < 2 ^ 16) → Fewest xs (length (runs xs))
+fewest-there xs few small =
+    let fit = runs-fit xs few small in
+    record {
+      counts = countsOf (runs xs);
+      words = wordsOf (runs xs);
+      counts-length = counts-many xs;
+      words-length = words-many xs;
+      counts-fit = fit .0;
+      words-fit = fit .1;
+      reached = encoded-whole xs;
+      least = no-fewer xs;
+    }
 
-module _ (t : Tables) (f : Field) (w : Worded t f) where
-  pub plays-field : (cs ws : List ℕ) (used : ℕ) → PlaysWords (fieldWords t f) cs ws used → Plays t f cs ws used
-  plays-field cs ws used p =
-      record {
-        shows = λ n h. p .below n (rw (w .count) h) ∙ ap shown (w .at n h);
-        ends = λ n h. p .past n (rw (w .count) h);
-      }
+-- ---- demand 3 of any list of words
 
-  pub plays-words : (cs ws : List ℕ) (used : ℕ) → Plays t f cs ws used → PlaysWords (fieldWords t f) cs ws used
-  plays-words cs ws used p =
-      record {
-        below = λ n h. let l : n < pixelCount t f = rw (w .count) at h in p .shows n l ∙ ap shown (sym (w .at n l));
-        past = λ n h. p .ends n (rw (w .count) at h);
-      }
+pub hold-meets :
+    (xs cs ws : List ℕ) → length xs < 2 ^ 32 → ((i : ℕ) → getD xs i 0 < 2 ^ 16) →
+    Demand xs cs ws (holdAnswer xs (roomOf cs ws)) (holdCounts xs (roomOf cs ws) cs) (holdWords xs (roomOf cs ws) ws)
+hold-meets xs cs ws few small =
+    let there = fewest-there xs few small in
+    hold-cases xs cs ws (Demand xs cs ws)
+    (λ h.
+    record {
+      plays = λ e. absurd (omega arith);
+      fewest = λ e. absurd (omega arith);
+      pixels = λ e. absurd (omega arith);
+      there = (length (runs xs), there);
+      refuses = λ k m. ((λ e. omega (arith, fewest-steps xs k m)), λ l. refl);
+      accepts = λ k m. ((λ e. absurd (omega arith)), λ l. absurd (omega (arith, fewest-steps xs k m)));
+      needs = λ e. there;
+      keeps = λ e. (refl, refl);
+      rest = λ e. absurd (omega arith);
+    })
+    (λ h.
+    record {
+      plays = λ e. encoded xs _ _;
+      fewest = λ e. there;
+      pixels = λ e. refl;
+      there = (length (runs xs), there);
+      refuses = λ k m. ((λ e. absurd (omega arith)), λ l. absurd (omega (arith, fewest-steps xs k m)));
+      accepts = λ k m. ((λ e. omega (arith, fewest-steps xs k m)), λ l. refl);
+      needs = λ e. absurd (omega arith);
+      keeps = λ e. absurd (e refl);
+      rest = λ e. (over-rest (countsOf (runs xs)) cs _ (counts-many xs), over-rest (wordsOf (runs xs)) ws _ (words-many xs));
+    })
 
-  words-small : (i : ℕ) → getD (fieldWords t f) i 0 < 2 ^ 16
-  words-small i =
-      by-cases (ltb i (pixelCount t f))
-      (λ e. let l = ltb-true i (pixelCount t f) e in rw (w .at i l) (w .small i l))
-      (λ e. rw (List·getD-eq-default (fieldWords t f) 0 {n = i} (rw (w .count) (ltb-false i (pixelCount t f) e))) (omega arith))
+-- to ask at the positions below any limit above the length, as code does below 2 ^ 64, is to ask at all: after a 19 every position is 19
+pub plays-asked :
+    (xs cs ws : List ℕ) (used limit : ℕ) → length xs < limit →
+    ((n : ℕ) → n < length xs → playAnswer cs ws used n ≡ shown (getD xs n 0)) →
+    ((n : ℕ) → length xs ≤ n → n < limit → playAnswer cs ws used n ≡ notShown 19) → Plays xs cs ws used
+plays-asked xs cs ws used limit h shows ends =
+    record { shows = shows; ends = ends-after cs ws used (length xs) (ends (length xs) (omega arith) h) }
 
-  -- ---- the runs are the fewest
+-- ---- a field's words
 
-  runs-play : Plays t f (countsOf (runsOf t f)) (wordsOf (runsOf t f)) (length (runsOf t f))
-  runs-play = plays-field _ _ _ (encoded-whole (fieldWords t f))
+module _ (t : Tables) (f : Field) where
+  pub field-small : (i : ℕ) → getD (fieldWords t f) i 0 < 2 ^ 16
+  field-small i = omega (arith, field-words-small t f i)
 
-  no-shorter : (cs ws : List ℕ) (used : ℕ) → Plays t f cs ws used → length (runsOf t f) ≤ used
-  no-shorter cs ws used p = no-fewer (fieldWords t f) cs ws used (plays-words cs ws used p)
+  module _ (cs ws : List ℕ) (used : ℕ) where
+    pub plays-field : Plays (fieldWords t f) cs ws used ↔ PlaysField t f cs ws used
+    plays-field =
+        let l = field-words-length t f in (
+          (λ p. record { shows = λ n h. p .shows n (rw l h) ∙ ap shown (field-word t f n h); ends = λ n h. p .ends n (rw l h) }),
+          λ q.
+              record {
+                shows = λ n h. let k : n < pixelCount t f = rw l at h in q .shows n k ∙ ap shown (sym (field-word t f n k));
+                ends = λ n h. q .ends n (rw l at h);
+              },
+        )
 
-  pub fewest-steps : (k : ℕ) → Fewest t f k → k ≡ length (runsOf t f)
-  fewest-steps k m =
-      omega (arith, m .least _ _ _ runs-play, no-shorter (m .counts) (m .words) k (m .reached))
-
-  -- of a field whose pixels a u32 counts
-  module _ (few : pixelCount t f < 2 ^ 32) where
-    pub fewest-there : Fewest t f (length (runsOf t f))
-    fewest-there =
-        let fit = runs-fit (fieldWords t f) (rw (w .count) few) words-small in
-        record {
-          counts = countsOf (runsOf t f);
-          words = wordsOf (runsOf t f);
-          counts-length = counts-many (fieldWords t f);
-          words-length = words-many (fieldWords t f);
-          counts-fit = fit .0;
-          words-fit = fit .1;
-          reached = runs-play;
-          least = no-shorter;
-        }
-
-    -- ---- the demand, at each answer
-
-    module _ (cs ws : List ℕ) where
-      pub met-short :
-          min (length cs) (length ws) < length (runsOf t f) →
-          Demand t f cs ws (record { verdict = refused 18 (length (runsOf t f)); steps = 0; pixels = 0 }) cs ws
-      met-short h =
-          record {
-            plays = λ e. absurd (omega arith);
-            fewest = λ e. absurd (omega arith);
-            pixels = λ e. absurd (omega arith);
-            there = (length (runsOf t f), fewest-there);
-            refuses = λ k m. ((λ e. omega (arith, fewest-steps k m)), λ l. refl);
-            accepts = λ k m. ((λ e. absurd (omega arith)), λ l. absurd (omega (arith, fewest-steps k m)));
-            needs = λ e. fewest-there;
-            keeps = λ e. (refl, refl);
-            rest = λ e. absurd (omega arith);
-          }
-
-      pub met-fits :
-          length (runsOf t f) ≤ min (length cs) (length ws) →
-          Demand t f cs ws (record { verdict = accepted; steps = length (runsOf t f); pixels = pixelCount t f })
-          (over (countsOf (runsOf t f)) cs) (over (wordsOf (runsOf t f)) ws)
-      met-fits h =
-          record {
-            plays = λ e. plays-field _ _ _ (encoded (fieldWords t f) _ _);
-            fewest = λ e. fewest-there;
-            pixels = λ e. refl;
-            there = (length (runsOf t f), fewest-there);
-            refuses = λ k m. ((λ e. absurd (omega arith)), λ l. absurd (omega (arith, fewest-steps k m)));
-            accepts = λ k m. ((λ e. omega (arith, fewest-steps k m)), λ l. refl);
-            needs = λ e. absurd (omega arith);
-            keeps = λ e. absurd (e refl);
-            rest = λ e. (
-              over-rest (countsOf (runsOf t f)) cs _ (counts-many (fieldWords t f)),
-              over-rest (wordsOf (runsOf t f)) ws _ (words-many (fieldWords t f)),
-            );
-          }
+    -- line by line and pixel by pixel
+    pub plays-pixel :
+        Plays (fieldWords t f) cs ws used → (line pixel : ℕ) → hasPixel t f line pixel ≡ true →
+        playAnswer cs ws used (placeOf t f line pixel) ≡ shown (wordOf (lineOf t f line) pixel)
+    plays-pixel p line pixel h =
+        p .shows (placeOf t f line pixel) (rw (field-words-length t f) (place-below t f line pixel h))
+        ∙ ap shown (field-word-at t f line pixel (has-line t f line pixel h) (has-pixel t f line pixel h))
 
 -- ---- compiling
 
-module _ (p : Profile) (cs ws : List ℕ) (w : Worded (p .tables) (p .field)) where
-  pub compile-meets :
-      pixelCount (p .tables) (p .field) < 2 ^ 32 → accepts (checkProfile p) ≡ true →
-      Demand (p .tables) (p .field) cs ws (compileAnswer p (roomOf cs ws)) (compileCounts p (roomOf cs ws) cs) (compileWords p (roomOf cs ws) ws)
-  compile-meets few ok =
-      compile-cases p cs ws (Demand (p .tables) (p .field) cs ws)
-      (λ e. absurd (false≢true (sym e ∙ ok)))
-      (λ e h. met-short (p .tables) (p .field) w few cs ws h)
-      (λ e h. met-fits (p .tables) (p .field) w few cs ws h)
-
-  -- where 0 is answered, the steps used play the field
-  pub compile-plays :
-      compileAnswer p (roomOf cs ws) .verdict .number ≡ 0 →
-      Plays (p .tables) (p .field) (compileCounts p (roomOf cs ws) cs) (compileWords p (roomOf cs ws) ws) (compileAnswer p (roomOf cs ws) .steps)
-  compile-plays =
-      compile-cases p cs ws (λ r cs′ ws′. r .verdict .number ≡ 0 → Plays (p .tables) (p .field) cs′ ws′ (r .steps))
-      (λ e z. absurd (eqb-false (checkProfile p .number) 0 e z))
-      (λ e h z. absurd (omega arith))
-      (λ e h z. plays-field (p .tables) (p .field) w _ _ _ (encoded (fieldWords (p .tables) (p .field)) _ _))
-
--- ---- line by line and pixel by pixel
-
--- of a field's places: a line's pixel has one below the pixel count, which is asked back for that line and pixel
-pub record Placed (t : Tables) (f : Field) : Type 0 where
-  pub below : (line pixel : ℕ) → hasPixel t f line pixel ≡ true → placeOf t f line pixel < pixelCount t f
-  pub line : (line pixel : ℕ) → hasPixel t f line pixel ≡ true → lineAt t f (placeOf t f line pixel) ≡ line
-  pub pixel : (line pixel : ℕ) → hasPixel t f line pixel ≡ true → pixelAt t f (placeOf t f line pixel) ≡ pixel
-
-pub plays-pixel :
-    (t : Tables) (f : Field) → Placed t f → (cs ws : List ℕ) (used : ℕ) → Plays t f cs ws used →
-    (line pixel : ℕ) → hasPixel t f line pixel ≡ true →
-    playAnswer cs ws used (placeOf t f line pixel) ≡ shown (wordOf (lineOf t f line) pixel)
-plays-pixel t f s cs ws used p line pixel h =
-    p .shows (placeOf t f line pixel) (s .below line pixel h) ∙ rw (s .pixel line pixel h, s .line line pixel h)
-
-pub compile-shows :
-    (p : Profile) (cs ws : List ℕ) → Worded (p .tables) (p .field) → Placed (p .tables) (p .field) →
-    compileAnswer p (roomOf cs ws) .verdict .number ≡ 0 → (line pixel : ℕ) → hasPixel (p .tables) (p .field) line pixel ≡ true →
-    playAnswer (compileCounts p (roomOf cs ws) cs) (compileWords p (roomOf cs ws) ws) (compileAnswer p (roomOf cs ws) .steps)
-    (placeOf (p .tables) (p .field) line pixel)
-    ≡ shown (wordOf (lineOf (p .tables) (p .field) line) pixel)
-compile-shows p cs ws w s z = plays-pixel (p .tables) (p .field) s _ _ _ (compile-plays p cs ws w z)
-
--- ---- every field
-
-pub worded : (t : Tables) (f : Field) → Worded t f
-worded t f =
-    record {
-      count = field-words-length t f;
-      at = field-word t f;
-      small = λ n h. le-trans (word-small (lineOf t f (lineAt t f n)) (pixelAt t f n)) (lit≤ tt);
-    }
-
-pub placed : (t : Tables) (f : Field) → Placed t f
-placed t f = record { below = place-below t f; line = line-at-place t f; pixel = pixel-at-place t f }
+pub field-few : (p : Profile) → checkProfile p ≡ accepted → length (profileWords p) < 2 ^ 32
+field-few p e = omega (arith, few-pixels (p .tables) (p .field) e)
 
 -- Demand 3, whole: for every accepted profile and any lent lists
 pub demand-3 :
     (p : Profile) (cs ws : List ℕ) → checkProfile p ≡ accepted →
-    Demand (p .tables) (p .field) cs ws (compileAnswer p (roomOf cs ws)) (compileCounts p (roomOf cs ws) cs) (compileWords p (roomOf cs ws) ws)
+    Demand (profileWords p) cs ws (compileAnswer p (roomOf cs ws)) (compileCounts p (roomOf cs ws) cs) (compileWords p (roomOf cs ws) ws)
 demand-3 p cs ws e =
-    let w = accepted-exactly p .0 e in
-    let few = pixels-most p (check-range p e) (w .1) in
-    compile-meets p cs ws (worded (p .tables) (p .field)) (omega arith) (ap accepts e)
+    let c = compile-held p cs ws (ap accepts e) in
+    rw (← c .0, ← c .1, ← c .2) (hold-meets (profileWords p) cs ws (field-few p e) (field-small (p .tables) (p .field)))
 
--- and each line's pixel shows its word
+-- and, of what compile ensures, each line's pixel shows its word
 pub demand-3-pixels :
-    (p : Profile) (cs ws : List ℕ) → compileAnswer p (roomOf cs ws) .verdict .number ≡ 0 →
+    (p : Profile) {cs ws : List ℕ} {r : Compiled} {cs′ ws′ : List ℕ} → Demand (profileWords p) cs ws r cs′ ws′ → r .verdict .number ≡ 0 →
     (line pixel : ℕ) → hasPixel (p .tables) (p .field) line pixel ≡ true →
-    playAnswer (compileCounts p (roomOf cs ws) cs) (compileWords p (roomOf cs ws) ws) (compileAnswer p (roomOf cs ws) .steps)
-    (placeOf (p .tables) (p .field) line pixel)
-    ≡ shown (wordOf (lineOf (p .tables) (p .field) line) pixel)
-demand-3-pixels p cs ws = compile-shows p cs ws (worded (p .tables) (p .field)) (placed (p .tables) (p .field))
-
--- ---- over what compile and play ensure
-
--- a run of compile: its answer and the lists at exit are those of its contract
-module _
-    (p : Profile) (cs ws : List ℕ) (r : Compiled) (cs′ ws′ : List ℕ) (answer : r ≡ compileAnswer p (roomOf cs ws))
-    (counts : cs′ ≡ compileCounts p (roomOf cs ws) cs) (words : ws′ ≡ compileWords p (roomOf cs ws) ws) where
-  -- demand 3 of such a run
-  pub demand-3-run : checkProfile p ≡ accepted → Demand (p .tables) (p .field) cs ws r cs′ ws′
-  demand-3-run e = rw (answer, counts, words) (demand-3 p cs ws e)
-
-  -- and what a run of play after it answers, at every position
-  pub demand-3-played :
-      checkProfile p ≡ accepted → r .verdict .number ≡ 0 → (n : ℕ) (a : Played) → a ≡ playAnswer cs′ ws′ (r .steps) n →
-      (n < pixelCount (p .tables) (p .field) →
-      a ≡ shown (wordOf (lineOf (p .tables) (p .field) (lineAt (p .tables) (p .field) n)) (pixelAt (p .tables) (p .field) n)))
-      × (pixelCount (p .tables) (p .field) ≤ n → a ≡ notShown 19)
-  demand-3-played e z n a x =
-      let q = demand-3-run e .plays z in
-      ((λ h. x ∙ q .shows n h), λ h. x ∙ q .ends n h)
+    playAnswer cs′ ws′ (r .steps) (placeOf (p .tables) (p .field) line pixel) ≡ shown (wordOf (lineOf (p .tables) (p .field) line) pixel)
+demand-3-pixels p d z = plays-pixel (p .tables) (p .field) _ _ _ (d .plays z)

@@ -9,15 +9,15 @@ use lib.ListN.{length}
 use borrow.Rule.Slice.PartMut.{midOf, putMid}
 use Rattle.profile.specs.Lists.{chunks}
 use Rattle.profile.specs.Values.{accepted}
-use Rattle.profile.specs.Geometry.{regionCount, firstLine, endLine, lineLength}
+use Rattle.profile.specs.Geometry.{regionCount, firstLine, endLine, Ordered, lineLength}
 use Rattle.profile.specs.Rules.{checkProfile}
 use Rattle.profile.specs.declared.Tables.{Tables}
 use Rattle.profile.specs.declared.Field.{Field}
 use Rattle.profile.specs.declared.Profile.{Profile}
 use Rattle.profile.proofs.Laws.{chunks-none, chunk-room}
 use Rattle.profile.proofs.Checked.{check-range}
-use Rattle.profile.proofs.Accepted.{accepted-exactly, accepted-ordered}
-use Rattle.profile.proofs.Lines.{Ordered, start-before-end, end-most, line-length-most, pixels-most}
+use Rattle.profile.proofs.Accepted.{accepted-field, accepted-ordered}
+use Rattle.profile.proofs.Lines.{start-before-end, end-most, line-length-most, pixels-most}
 use Rattle.level.specs.declared.Line.{Line}
 use Rattle.level.specs.Line.{lineOf}
 use Rattle.level.specs.Fieldwords.{lineWords, wordsOf, fieldWords}
@@ -80,10 +80,10 @@ module _ (t : Tables) (f : Field) (ok : checkProfile (record { tables = t; field
   in-order = accepted-ordered whole ok
 
   pub short-lines : (line : ℕ) → lineLength t f line ≤ 4095
-  short-lines line = line-length-most whole (check-range whole ok) (accepted-exactly whole .0 ok .1) line
+  short-lines line = line-length-most whole (check-range whole ok) (accepted-field whole ok) line
 
   pub few-pixels : length (fieldWords t f) ≤ 16769025
-  few-pixels = rw (field-words-length t f) (pixels-most whole (check-range whole ok) (accepted-exactly whole .0 ok .1))
+  few-pixels = rw (field-words-length t f) (pixels-most whole (check-range whole ok) (accepted-field whole ok))
 
   pub region-starts : (i : ℕ) → i < regionCount f → firstLine f i ≤ endLine f i
   region-starts i h = omega (arith, start-before-end f in-order i h)

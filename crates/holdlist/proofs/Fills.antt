@@ -4,7 +4,7 @@
 use Prim.Native.Nat.{ℕ, zero, suc, _+_, _-_, _≤_, _<_, _^_, min}
 use native.Mathlib.Omega.{arith}
 use native.Mathlib.Numerals.{add-one}
-use native.Mathlib.Nat.{zero-min, min-zero, suc-min-suc, add-zero, add-suc, suc-add, add-comm}
+use native.Mathlib.Nat.{zero-min, min-zero, suc-min-suc, add-zero, add-suc, add-comm}
 use mathlib.Core.Path.{_≡_, refl, sym, ap, _∙_}
 use mathlib.Core.List.{List, [], _∷_, _++_, map, map-append, append-nil, append-assoc}
 use mathlib.Core.Bool.{true}
@@ -18,9 +18,9 @@ use Rattle.level.specs.declared.Line.{Line}
 use Rattle.level.specs.Fieldwords.{lineWords}
 use Rattle.level.proofs.Words.{line-words-length}
 use Rattle.holdlist.specs.declared.Step.{Step}
-use Rattle.holdlist.specs.Runs.{none, flush, pushed, opened, closed, runs, countOf, wordOf, countsOf, wordsOf}
+use Rattle.holdlist.specs.Runs.{none, flush, opened, closed, runs, countOf, wordOf, countsOf, wordsOf}
 use Rattle.holdlist.specs.Fills.{lay, Lays, Fills, Alike, same}
-use Rattle.holdlist.proofs.Runs.{opened-append, closed-append, push-other, closed-length, closed-same, opened-count, flush-one}
+use Rattle.holdlist.proofs.Runs.{opened-append, closed-append, push-other, closed-length, closed-same, opened-same, opened-count, flush-one}
 
 -- ---- one list over the front of another
 
@@ -183,11 +183,6 @@ module _ (o : Step) (cs ws : List ℕ) where
   flush-step e p q = let f = ne-eqb (o .count) 0 e in record { tells = rw f; counted = rw f p; worded = rw f q }
 
 -- ---- a word is pushed a number of times
-
-opened-same : (n k w : ℕ) → opened (record { count = k; word = w }) (replicate n w) ≡ record { count = k + n; word = w }
-unfolding opened pushed
-opened-same zero k w = rw add-zero
-opened-same (suc n) k w = rw (opened, eq-eqb w w refl) (opened-same n (suc k) w ∙ rw (add-suc, suc-add))
 
 module _ (cs ws : List ℕ) where
   hold-same : (n k w : ℕ) → Fills (record { count = k; word = w }) (replicate n w) cs ws 0 (record { count = k + n; word = w }) cs ws

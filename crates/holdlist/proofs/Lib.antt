@@ -6,7 +6,8 @@ pub mod Demanded
 pub mod Fills
 pub mod Passes
 pub mod Spelling
-pub mod Printed
 pub mod Puts
 pub mod Told
 pub mod FieldLoops
+pub mod Readback
+pub mod Prints

@@ -3,31 +3,22 @@
 -- Assumes nothing.
 use Prim.Native.Nat.{ℕ, zero, suc, _+_, _-_, _≤_, _<_, _^_}
 use native.Mathlib.Omega.{arith}
-use native.Mathlib.Nat.{sub-zero, suc-sub-suc}
-use mathlib.Core.Path.{_≡_, refl, ap, _∙_}
+use native.Mathlib.Nat.{sub-zero, suc-sub-suc, add-zero, add-suc, suc-add}
+use mathlib.Core.Path.{_≡_, refl, sym, ap, _∙_}
 use mathlib.Core.List.{List, [], _∷_, _++_, append-assoc, append-nil}
 use mathlib.Core.Bool.{cond}
 use lib.ListN.{length, getD, drop, replicate, length-append, length-replicate, List·getD-eq-default, List·getD-map}
 use lib.Seq.{drop-at}
 use lib.Dec.{eqb, ltb, leb·suc-suc}
-use borrow.Author.Tests.{lt-ltb, le-ltb, eq-eqb, ne-eqb, eqb-true}
-use Rattle.profile.specs.Lists.{over}
-use Rattle.profile.proofs.Laws.{cond-case, by-cases}
+use borrow.Author.Tests.{lt-ltb, le-ltb, eq-eqb, ne-eqb, eqb-true, eqb-false}
+use Rattle.profile.specs.Lists.{Each, over}
+use Rattle.profile.proofs.Laws.{cond-case, by-cases, each-append}
 use Rattle.holdlist.specs.declared.Step.{Step}
 use Rattle.holdlist.specs.Play.{walk, expand, shown}
 use Rattle.holdlist.specs.Runs.{none, flush, pushed, shut, opened, closed, runs, countOf, wordOf, countsOf, wordsOf}
 use Rattle.holdlist.proofs.Player.{showing}
 
 -- ---- lists
-
--- a claim of each element
-abbrev pub Each : {A : Type 0} → (A → Type 0) → List A → Type 0
-Each P [] = Unit {0}
-Each P (x ∷ xs) = P x × Each P xs
-
-pub each-append : {A : Type 0} (P : A → Type 0) (xs ys : List A) → Each P xs → Each P ys → Each P (xs ++ ys)
-each-append P [] ys a b = b
-each-append P (x ∷ xs) ys a b = (a .0, each-append P xs ys (a .1) b)
 
 pub each-at : {A : Type 0} (P : A → Type 0) (xs : List A) (d : A) → Each P xs → P d → (i : ℕ) → P (getD xs i d)
 each-at P [] d a z i = z
@@ -142,6 +133,11 @@ unfolding closed shut pushed
 closed-same zero k w = refl
 closed-same (suc n) k w = rw (eq-eqb w w refl) (closed-same n (suc k) w)
 
+pub opened-same : (n k w : ℕ) → opened (record { count = k; word = w }) (replicate n w) ≡ record { count = k + n; word = w }
+unfolding opened pushed
+opened-same zero k w = rw add-zero
+opened-same (suc n) k w = rw (opened, eq-eqb w w refl) (opened-same n (suc k) w ∙ rw (add-suc, suc-add))
+
 closed-run : (c w : ℕ) (o : Step) → length (closed o (replicate (suc c) w)) ≤ length (flush o)
 unfolding closed shut pushed
 closed-run c w o =
@@ -169,6 +165,110 @@ fewest-from (c ∷ cs) (w ∷ ws) o =
 pub runs-fewest : (cs ws xs : List ℕ) → expand cs ws ≡ xs → length (runs xs) ≤ length cs
 unfolding runs total flush
 runs-fewest cs ws xs e = rw (← e, length-append) (omega (arith, fewest-from cs ws none))
+
+-- ---- a list that is as short is the runs: a step of count 0, or of the word of the step before it, would be one too many
+
+abbrev step : ℕ → ℕ → Step
+step c w = record { count = c; word = w }
+
+-- two lists as one list of steps
+stepsOf : List ℕ → List ℕ → List Step
+stepsOf [] ws = []
+stepsOf (c ∷ cs) [] = []
+stepsOf (c ∷ cs) (w ∷ ws) = step c w ∷ stepsOf cs ws
+
+steps-two : (cs ws : List ℕ) → length ws ≡ length cs → (countsOf (stepsOf cs ws) ≡ cs) × (wordsOf (stepsOf cs ws) ≡ ws)
+unfolding stepsOf
+steps-two [] [] e = (refl, refl)
+steps-two [] (w ∷ ws) e = absurd (omega arith)
+steps-two (c ∷ cs) [] e = absurd (omega arith)
+steps-two (c ∷ cs) (w ∷ ws) e =
+    let t = steps-two cs ws (omega arith) in
+    (ap (λ (l : List ℕ). c ∷ l) (t .0), ap (λ (l : List ℕ). w ∷ l) (t .1))
+
+-- the steps of the words xs after the open step o
+steps-after : Step → List ℕ → List Step
+steps-after o xs = closed o xs ++ flush (opened o xs)
+
+flush-some : (c w : ℕ) → flush (step (suc c) w) ≡ step (suc c) w ∷ []
+unfolding flush
+flush-some c w = rw (ne-eqb (suc c) 0 (λ e. omega arith))
+
+flush-none : (o : Step) → length (flush o) ≡ 0 → (flush o ≡ []) × (o .count ≡ 0)
+unfolding flush
+flush-none o e = by-cases (eqb (o .count) 0) (λ q. (rw q, eqb-true (o .count) 0 q)) (λ q. absurd (omega (arith, rw q at e)))
+
+-- a run of c + 1 words w, and then a list that is as short as it can be after any open step
+module _
+    (c w : ℕ) (cs ws : List ℕ) (o : Step)
+    (on : (o : Step) → total o (expand cs ws) ≡ length (flush o) + length cs → steps-after o (expand cs ws) ≡ flush o ++ stepsOf cs ws)
+    (e : total o (replicate (suc c) w ++ expand cs ws) ≡ length (flush o) + suc (length cs))
+  where
+    abbrev run-words : List ℕ
+    run-words = replicate (suc c) w
+
+    -- where it closes the open step and opens its own
+    one-opened : closed o run-words ≡ flush o → opened o run-words ≡ step (suc c) w
+        → steps-after o (run-words ++ expand cs ws) ≡ flush o ++ (step (suc c) w ∷ stepsOf cs ws)
+    unfolding steps-after
+    one-opened a b =
+        let f = flush-some c w in
+        let t = total-append o run-words (expand cs ws) in
+        let l : total (step (suc c) w) (expand cs ws) ≡ length (flush (step (suc c) w)) + length cs =
+        omega (arith, e, rw (a, b) at t, ap length f)
+        in
+        rw (closed-append o run-words (expand cs ws), opened-append o run-words (expand cs ws), a, b, append-assoc)
+        (ap (λ (s : List Step). flush o ++ s) (on (step (suc c) w) l ∙ ap (λ (s : List Step). s ++ stepsOf cs ws) f))
+
+    -- the word of the open step, which is none then
+    one-same : o .word ≡ w → steps-after o (run-words ++ expand cs ws) ≡ flush o ++ (step (suc c) w ∷ stepsOf cs ws)
+    unfolding closed opened
+    one-same q =
+        let p = push-same o w q in
+        let a : closed o run-words ≡ [] = rw (p .0, p .1) (closed-same c (suc (o .count)) w) in
+        let b : opened o run-words ≡ step (suc (o .count) + c) w = rw (opened, p .1) (opened-same c (suc (o .count)) w) in
+        let z =
+        flush-none o
+        (omega (
+          arith,
+          e,
+          ap length a,
+          total-append o run-words (expand cs ws),
+          fewest-from cs ws (opened o run-words),
+          flush-one (opened o run-words),
+        ))
+        in
+        one-opened (a ∙ sym (z .0)) (b ∙ ap (λ (n : ℕ). step n w) (omega (arith, z .1)))
+
+    one-other : (o .word ≡ w → ⊥) → steps-after o (run-words ++ expand cs ws) ≡ flush o ++ (step (suc c) w ∷ stepsOf cs ws)
+    unfolding closed opened
+    one-other n =
+        let p = push-other o w n in
+        one-opened (rw (p .0, p .1, closed-same c 1 w) (append-nil (flush o))) (rw (opened, p .1) (opened-same c 1 w ∙ ap (λ (n : ℕ). step n w) (omega arith)))
+
+one-none : (o : Step) → steps-after o [] ≡ flush o ++ []
+unfolding steps-after closed opened
+one-none o = sym (append-nil (flush o))
+
+one-from : (cs ws : List ℕ) (o : Step) → length ws ≡ length cs → total o (expand cs ws) ≡ length (flush o) + length cs
+    → steps-after o (expand cs ws) ≡ flush o ++ stepsOf cs ws
+unfolding expand stepsOf
+one-from [] ws o h e = one-none o
+one-from (c ∷ cs) [] o h e = absurd (omega arith)
+one-from (zero ∷ cs) (w ∷ ws) o h e = absurd (omega (arith, e, fewest-from cs ws o))
+one-from (suc c ∷ cs) (w ∷ ws) o h e =
+    by-cases (eqb (o .word) w)
+    (λ q. one-same c w cs ws o (λ o. one-from cs ws o (omega arith)) e (eqb-true (o .word) w q))
+    (λ q. one-other c w cs ws o (λ o. one-from cs ws o (omega arith)) e (eqb-false (o .word) w q))
+
+pub runs-one : (cs ws xs : List ℕ) → expand cs ws ≡ xs → length cs ≡ length (runs xs) → length ws ≡ length cs
+    → (cs ≡ countsOf (runs xs)) × (ws ≡ wordsOf (runs xs))
+unfolding runs steps-after total flush
+runs-one cs ws xs e h l =
+    let s = length-append (closed none xs) (flush (opened none xs)) in
+    let r : runs xs ≡ stepsOf cs ws = rw (← e) (one-from cs ws none l (rw e (omega (arith, s, h)))) in
+    let t = steps-two cs ws l in
+    (sym (t .0) ∙ ap countsOf (sym r), sym (t .1) ∙ ap wordsOf (sym r))
 
 -- ---- bounds of the number of steps
 

@@ -36,7 +36,7 @@ leading-more (suc m) h = rw (in-enough m (suc m / 10) (suc m / 10) (omega arith)
 
 -- ---- the number is told
 
-value-append : (a : ℕ) (s t : List ℕ) → valueAfter a (s ++ t) ≡ valueAfter (valueAfter a s) t
+pub value-append : (a : ℕ) (s t : List ℕ) → valueAfter a (s ++ t) ≡ valueAfter (valueAfter a s) t
 unfolding valueAfter
 value-append a [] t = refl
 value-append a (d ∷ s) t = value-append (10 * a + (d - 48)) s t

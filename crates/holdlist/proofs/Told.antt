@@ -8,14 +8,13 @@ use borrow.Author.Tests.{eq-eqb, ne-eqb, eqb-true, eqb-false}
 use lib.Dec.{eqb}
 use lib.ListN.{length, getD, drop, length-append, length-map, List·getD-append}
 use Rattle.profile.specs.Lists.{over}
-use Rattle.profile.specs.Geometry.{pixelCount}
 use Rattle.profile.specs.Script.{readScript}
 use Rattle.profile.specs.declared.Profile.{Profile}
 use Rattle.profile.specs.declared.ReadAnswer.{ReadAnswer}
 use Rattle.profile.proofs.Laws.{by-cases, chunks-ext}
 use Rattle.holdlist.specs.declared.Compiled.{Compiled}
 use Rattle.holdlist.specs.Runs.{countOf, wordOf, countsOf, wordsOf}
-use Rattle.holdlist.specs.Compile.{fieldRuns, roomOf, compileAnswer, compileCounts, compileWords}
+use Rattle.holdlist.specs.Compile.{roomOf, profileWords, fieldRuns, compileAnswer, compileCounts, compileWords}
 use Rattle.holdlist.specs.Text.{headLine, stepLineAt, listing, refusedLine, told, printedOf, printed}
 use Rattle.holdlist.proofs.Demanded.{compile-cases}
 use Rattle.holdlist.proofs.Spelling.{listing-length, refused-length}
@@ -71,7 +70,7 @@ told-runs p cs ws =
     (λ e. rw e)
     (λ ok h. refl)
     (λ ok h.
-    listing-over (length (fieldRuns p)) (pixelCount (p .tables) (p .field)) (countsOf (fieldRuns p)) (wordsOf (fieldRuns p)) cs ws
+    listing-over (length (fieldRuns p)) (length (profileWords p)) (countsOf (fieldRuns p)) (wordsOf (fieldRuns p)) cs ws
     (length-map (fieldRuns p) countOf) (length-map (fieldRuns p) wordOf))
 
 -- ---- what is printed for a script

@@ -1,4 +1,4 @@
--- What compiling a field answers, and leaves in the two lent lists.
+-- What compiling answers, and leaves in the two lent lists: of any list of words, and of a profile's field.
 -- Assumes nothing.
 use Prim.Native.Nat.{ℕ, _+_, _-_, min}
 use mathlib.Core.List.{List}
@@ -7,7 +7,7 @@ use lib.ListN.{length}
 use lib.Dec.{leb}
 use Rattle.profile.specs.Lists.{chunks, over}
 use Rattle.profile.specs.Values.{accepted, refused, accepts}
-use Rattle.profile.specs.Geometry.{firstLine, endLine, pixelCount}
+use Rattle.profile.specs.Geometry.{firstLine, endLine}
 use Rattle.profile.specs.Rules.{checkProfile}
 use Rattle.profile.specs.declared.Tables.{Tables}
 use Rattle.profile.specs.declared.Field.{Field}
@@ -26,32 +26,46 @@ linesWords t f a n = chunks n (λ k. wordsOf t f (a + k))
 abbrev pub regionWords : Tables → Field → ℕ → List ℕ
 regionWords t f i = linesWords t f (firstLine f i) (endLine f i - firstLine f i)
 
--- the runs of equal words of a profile's field
-abbrev pub fieldRuns : Profile → List Step
-fieldRuns p = runs (fieldWords (p .tables) (p .field))
-
 -- "room is the shorter length"
 abbrev pub roomOf : List ℕ → List ℕ → ℕ
 roomOf counts words = min (length counts) (length words)
 
--- the check's refusal, then 18 with the steps needed
-unfoldable pub compileVerdict : Profile → ℕ → Verdict
-compileVerdict p room =
-    cond (accepts (checkProfile p))
-    (cond (leb (length (fieldRuns p)) room) accepted (refused 18 (length (fieldRuns p))))
-    (checkProfile p)
+-- ---- a list of words, held as its runs of equal words
 
-unfoldable pub compileAnswer : Profile → ℕ → Compiled
-compileAnswer p room =
+-- 18 with the steps needed, where there is room for fewer
+unfoldable pub holdVerdict : List ℕ → ℕ → Verdict
+holdVerdict xs room = cond (leb (length (runs xs)) room) accepted (refused 18 (length (runs xs)))
+
+unfoldable pub holdAnswer : List ℕ → ℕ → Compiled
+holdAnswer xs room =
     record {
-      verdict = compileVerdict p room;
-      steps = cond (accepts (compileVerdict p room)) (length (fieldRuns p)) 0;
-      pixels = cond (accepts (compileVerdict p room)) (pixelCount (p .tables) (p .field)) 0;
+      verdict = holdVerdict xs room;
+      steps = cond (accepts (holdVerdict xs room)) (length (runs xs)) 0;
+      pixels = cond (accepts (holdVerdict xs room)) (length xs) 0;
     }
 
 -- "a refused .. compile changes no lent .. entry. After success, entries past the used ones keep what they held."
+unfoldable pub holdCounts : List ℕ → ℕ → List ℕ → List ℕ
+holdCounts xs room counts = cond (accepts (holdVerdict xs room)) (over (countsOf (runs xs)) counts) counts
+
+unfoldable pub holdWords : List ℕ → ℕ → List ℕ → List ℕ
+holdWords xs room words = cond (accepts (holdVerdict xs room)) (over (Runs.wordsOf (runs xs)) words) words
+
+-- ---- a profile's field: the check's refusal, which leaves both lists as they were, or its words held
+
+abbrev pub profileWords : Profile → List ℕ
+profileWords p = fieldWords (p .tables) (p .field)
+
+-- its runs of equal words
+abbrev pub fieldRuns : Profile → List Step
+fieldRuns p = runs (profileWords p)
+
+unfoldable pub compileAnswer : Profile → ℕ → Compiled
+compileAnswer p room =
+    cond (accepts (checkProfile p)) (holdAnswer (profileWords p) room) (record { verdict = checkProfile p; steps = 0; pixels = 0 })
+
 unfoldable pub compileCounts : Profile → ℕ → List ℕ → List ℕ
-compileCounts p room counts = cond (accepts (compileVerdict p room)) (over (countsOf (fieldRuns p)) counts) counts
+compileCounts p room counts = cond (accepts (checkProfile p)) (holdCounts (profileWords p) room counts) counts
 
 unfoldable pub compileWords : Profile → ℕ → List ℕ → List ℕ
-compileWords p room words = cond (accepts (compileVerdict p room)) (over (Runs.wordsOf (fieldRuns p)) words) words
+compileWords p room words = cond (accepts (checkProfile p)) (holdWords (profileWords p) room words) words

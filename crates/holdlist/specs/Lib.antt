@@ -4,3 +4,5 @@ pub mod Compile
 pub mod Demand
 pub mod Fills
 pub mod Text
+pub mod Readback
+pub mod Prints

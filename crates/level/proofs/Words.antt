@@ -32,7 +32,6 @@ use Rattle.profile.proofs.Lines.{
   has-line,
   has-pixel,
   has-both,
-  Ordered,
   end-most,
   region-is,
   regions-lines,
@@ -42,6 +41,7 @@ use Rattle.profile.proofs.Lines.{
 use Rattle.profile.specs.Lists.{chunks, lastStart}
 use Rattle.profile.specs.Geometry.{
   regionCount,
+  Ordered,
   firstLine,
   endLine,
   regionOf,

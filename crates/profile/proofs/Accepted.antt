@@ -1,22 +1,44 @@
--- A profile is accepted exactly where it is in range, has a field and obeys every rule; otherwise the verdict is that of the first entry, in the
--- stated order, that does not hold. Each entry's test is reflected (Reflects), and the list is taken apart in its order (Entries).
+-- A profile is accepted exactly where every rule holds at every place, and is refused with the number and the place of the first that does not
+-- (specs/Obeys.antt). Each entry's test is reflected (Reflects), and the entries rise in the stated order, which is computed over the list.
 -- Assumes nothing.
-use Prim.Native.Nat.{ℕ, zero, suc, _+_, _-_, _≤_, _<_}
+use Prim.Native.Nat.{ℕ, zero, suc, _+_, _-_, _*_, _≤_, _<_}
 use native.Mathlib.Nat.{add-sub-cancel}
 use native.Mathlib.Omega.{arith}
-use mathlib.Core.Path.{_≡_, refl, sym, ap, _∙_}
+use mathlib.Core.Path.{_≡_, refl, sym, ap, subst, _∙_}
 use mathlib.Core.Logic.{_↔_, _⊎_, inl, inr}
-use mathlib.Core.Bool.{Bool, true, false, cond, not, _||_}
+use mathlib.Core.Bool.{Bool, true, false, cond, not, _&&_, _||_, false≢true}
 use mathlib.Core.List.{List, [], _∷_, _++_, map}
 use lib.ListN.{getD}
-use lib.Dec.{ltb, eqb, lit≤}
-use borrow.Author.Tests.{ltb-true, eqb-true, lt-ltb, eq-eqb, ne-eqb}
-use Rattle.profile.specs.Lists.{all, chunks}
+use lib.Dec.{ltb, leb, eqb, lit≤}
+use borrow.Author.Tests.{ltb-true, ltb-false, leb-true, eqb-true, eqb-false, lt-ltb, eq-eqb, ne-eqb}
+use Rattle.profile.specs.Lists.{Each, all, chunks}
 use Rattle.profile.specs.Values.{accepted, refused, emptyGate, emptyShutter}
-use Rattle.profile.specs.Geometry.{regionCount, regionAt, firstLine, sequenceAt, patternAt, lineLength, regionSize, gateLines}
-use Rattle.profile.specs.Rules.{entriesAt, Entry, rule, firstBroken, startsRight, hasSecond, secondOf, secondRight, orderEntries, toggleEntries, runEntries, regionEntries, lineEntries, gateEntries, subckEntries, shutterEntries, rulesOf, judge, checkProfile}
+use Rattle.profile.specs.Geometry.{regionCount, regionAt, firstLine, Ordered, sequenceAt, patternAt, lineLength, regionSize, gateLines}
+use Rattle.profile.specs.Rules.{
+  Entry,
+  rule,
+  firstBroken,
+  startsRight,
+  togglesRight,
+  hasSecond,
+  secondOf,
+  secondRight,
+  gateRight,
+  orderEntries,
+  toggleEntries,
+  runEntries,
+  entriesAt,
+  regionEntries,
+  lineEntries,
+  gateEntries,
+  subckEntries,
+  shutterEntries,
+  rulesOf,
+  judge,
+  checkProfile,
+}
 use Rattle.profile.specs.Ranges.{inRange}
-use Rattle.profile.specs.Obeys.{Ranged, Rises, Masks, Counts, Ends, Seconds, Shuts, Obeys}
+use Rattle.profile.specs.Obeys.{Seconds, Before, Starts, Pulses, Rule, turn, Earlier, FirstBroken}
 use Rattle.profile.specs.declared.Mode.{Mode}
 use Rattle.profile.specs.declared.Sequence.{Sequence}
 use Rattle.profile.specs.declared.Pattern.{Pattern}
@@ -24,177 +46,147 @@ use Rattle.profile.specs.declared.Tables.{Tables}
 use Rattle.profile.specs.declared.Field.{Field}
 use Rattle.profile.specs.declared.Profile.{Profile}
 use Rattle.profile.specs.declared.Verdict.{Verdict}
-use Rattle.profile.proofs.Entries.{
-  Numbered,
-  Hold,
-  entries-hold,
-  hold-accepted,
-  numbered-left,
-  fine-then,
-  fine-left,
-  fine-right,
-  numbered-chunks,
-  fine-chunk,
-  chunks-fine,
-}
-use Rattle.profile.proofs.Checked.{check-range, check-judge, judge-field, judge-rules, numbered-output, numbered-order, numbered-region, numbered-lines, numbered-gates, numbered-shutters, numbered-rules}
+use Rattle.profile.proofs.Laws.{by-cases, each-map, each-append, each-left, each-right, each-chunks, each-chunk}
+use Rattle.profile.proofs.Checked.{check-range, numbered-rules}
+use Rattle.profile.proofs.Entries.{Numbered, Hold, hold-accepted}
+use Rattle.profile.proofs.Lines.{regions-some}
 use Rattle.profile.proofs.Carried.{says-range}
-use Rattle.profile.proofs.Lines.{Ordered, regions-some}
-use Rattle.profile.proofs.Reflects.{Says, says-lt, says-ne, says-and, says-where, says-one, says-toggles, says-mask, says-counts, says-ends, says-second, says-gate, says-subck, says-shutter}
+use Rattle.profile.proofs.Reflects.{Says, says-lt, says-le, says-true, says-ne, says-and, says-where, says-one, says-toggles, says-mask, says-counts, says-ends, says-second, says-gate, says-subck, says-shutter}
 
 -- ---- the first entry that does not hold
 
--- e is the first entry of the list that does not hold: those before it do
-pub record First (es : List Entry) (v : Verdict) : Type 0 where
+pub record First (es : List Entry) : Type 0 where
   pub before : List Entry
   pub entry : Entry
   pub after : List Entry
   pub there : es ≡ before ++ entry ∷ after
   pub hold : Hold before
   pub broken : entry .holds ≡ false
-  pub named : v ≡ entry .verdict
+  pub named : firstBroken es ≡ entry .verdict
 
-first-later : (e : Entry) (es : List Entry) (v : Verdict) → e .holds ≡ true → First es v → First (e ∷ es) v
-first-later e es v h f =
-    record {
-      before = e ∷ f .before;
-      entry = f .entry;
-      after = f .after;
-      there = ap (λ (l : List Entry). e ∷ l) (f .there);
-      hold = (h, f .hold);
-      broken = f .broken;
-      named = f .named;
-    }
-
--- the verdict of a list: all hold and it accepts, or it is that of the first that does not hold
-pub first-broken : (es : List Entry) → (Hold es × (firstBroken es ≡ accepted)) ⊎ First es (firstBroken es)
+-- none is broken, or there is a first
+first-broken : (es : List Entry) → Hold es ⊎ First es
 unfolding firstBroken
-first-broken [] = inl (tt, refl)
-first-broken (e ∷ es) = go (e .holds) refl (first-broken es)
+first-broken [] = inl tt
+first-broken (e ∷ es) = by-cases (e .holds) (λ h. later h (first-broken es)) (λ h. inr (here h))
   where
-    go : (b : Bool) → e .holds ≡ b → (Hold es × (firstBroken es ≡ accepted)) ⊎ First es (firstBroken es)
-        → (Hold (e ∷ es) × (cond b (firstBroken es) (e .verdict) ≡ accepted)) ⊎ First (e ∷ es) (cond b (firstBroken es) (e .verdict))
-    go true h (inl w) = inl ((h, w .0), w .1)
-    go true h (inr f) = inr (first-later e es _ h f)
-    go false h w = inr (record { before = []; entry = e; after = es; there = refl; hold = tt; broken = h; named = refl })
+    later : e .holds ≡ true → Hold es ⊎ First es → Hold (e ∷ es) ⊎ First (e ∷ es)
+    later h (inl w) = inl (h, w)
+    later h (inr w) =
+        inr
+        (record {
+          before = e ∷ w .before;
+          entry = w .entry;
+          after = w .after;
+          there = ap (λ (l : List Entry). e ∷ l) (w .there);
+          hold = (h, w .hold);
+          broken = w .broken;
+          named = rw h (w .named);
+        })
 
--- all entries of a profile in the stated order: 5, 6, then 7 to 17
-pub entriesOf : Profile → List Entry
-entriesOf p = rule 5 0 (inRange p) ∷ rule 6 0 (p .field .present) ∷ rulesOf (p .tables) (p .field)
+    here : e .holds ≡ false → First (e ∷ es)
+    here h = record { before = []; entry = e; after = es; there = refl; hold = tt; broken = h; named = rw h }
 
-pub check-entries : (p : Profile) → checkProfile p ≡ firstBroken (entriesOf p)
-unfolding checkProfile judge firstBroken entriesOf
-check-entries p = refl
+-- ---- the order
 
--- ---- each part of the list
+-- an entry's turn, place and number as one number
+abbrev key : Entry → ℕ
+key e = 400 * turn (e .verdict .number) + 20 * e .verdict .place + e .verdict .number
 
-says-fine : (b : Bool) (A : Type 0) (v : Verdict) → 1 ≤ v .number → Says b A → (firstBroken (record { verdict = v; holds = b } ∷ []) ≡ accepted) ↔ A
-says-fine b A v n f = (
-  (λ e. f .0 (entries-hold (record { verdict = v; holds = b } ∷ []) (n, tt) e .0)),
-  λ w. hold-accepted (record { verdict = v; holds = b } ∷ []) (f .1 w, tt),
-)
+abbrev Small : Entry → Type 0
+Small e = (e .verdict .number < 20) × (e .verdict .place < 20)
 
--- 7 at one region
-abbrev Starts : Field → ℕ → Type 0
-Starts f i = (firstLine f i < f .lines) × ((i ≡ 0 → firstLine f i ≡ 0) × ((i ≡ 0 → ⊥) → firstLine f (i - 1) < firstLine f i))
+earlier-less : (a j m b i n : ℕ) → m < 20 → j < 20 → (a < b) ⊎ ((a ≡ b) × Before j m i n) → 400 * a + 20 * j + m < 400 * b + 20 * i + n
+earlier-less a j m b i n u v (inl h) = omega arith
+earlier-less a j m b i n u v (inr (e, inl h)) = omega arith
+earlier-less a j m b i n u v (inr (e, inr h)) = omega arith
+
+-- the entries' keys never fall from k on
+rising : ℕ → List Entry → Bool
+rising k [] = true
+rising k (e ∷ es) = leb k (key e) && (ltb (e .verdict .number) 20 && ltb (e .verdict .place) 20) && rising (key e) es
+
+abbrev Above : ℕ → Entry → Type 0
+Above k e = (k ≤ key e) × Small e
+
+rising-says : (k : ℕ) (e : Entry) (es : List Entry) → rising k (e ∷ es) ≡ true → Above k e × (rising (key e) es ≡ true)
+unfolding rising
+rising-says k e es r =
+    let w = says-and (says-and (says-le k (key e)) (says-and (says-lt (e .verdict .number) 20) (says-lt (e .verdict .place) 20))) (says-true (rising (key e) es)) in
+    w .0 r
+
+rising-above : (k : ℕ) (es : List Entry) → rising k es ≡ true → Each (Above k) es
+rising-above k [] r = tt
+rising-above k (e ∷ es) r =
+    let w = rising-says k e es r in
+    (w .0, each-map (Above (key e)) (Above k) (λ d v. (omega (arith, v .0, w .0 .0), v .1)) es (rising-above (key e) es (w .1)))
+
+-- from an entry on, all are at or above it
+rising-from : (k : ℕ) (before : List Entry) (e : Entry) (after : List Entry) → rising k (before ++ e ∷ after) ≡ true
+    → Each (Above (key e)) (e ∷ after)
+rising-from k [] e after r = let w = rising-says k e after r in ((omega arith, w .0 .1), rising-above (key e) after (w .1))
+rising-from k (d ∷ before) e after r = rising-from (key d) before e after (rising-says k d (before ++ e ∷ after) r .1)
+
+-- of two numbers, one is less, or they are the same
+less-or : {P : Type 0} (a b : ℕ) → (a < b → P) → (b < a → P) → (a ≡ b → P) → P
+less-or a b f g h =
+    by-cases (ltb a b)
+    (λ q. f (ltb-true a b q))
+    (λ q. by-cases (ltb b a) (λ r. g (ltb-true b a r)) (λ r. h (omega (arith, ltb-false a b q, ltb-false b a r))))
+
+-- of two rules at places, one is earlier, or they are the same
+same-rule : (m j n i : ℕ) → (Earlier m j n i → ⊥) → (Earlier n i m j → ⊥) → (m ≡ n) × (j ≡ i)
+same-rule m j n i a b =
+    less-or (turn m) (turn n) (λ h. absurd (a (inl h))) (λ h. absurd (b (inl h)))
+    (λ e.
+    less-or j i (λ h. absurd (a (inr (e, inl h)))) (λ h. absurd (b (inr (sym e, inl h))))
+    (λ z. less-or m n (λ h. absurd (a (inr (e, inr (z, h))))) (λ h. absurd (b (inr (sym e, inr (sym z, h))))) (λ h. (h, z))))
+
+-- ---- each test says its row
 
 says-starts : (f : Field) (i : ℕ) → Says (startsRight f i) (Starts f i)
 unfolding startsRight
-says-starts f i = says-and (says-lt (firstLine f i) (f .lines)) (by-place i)
-  where
-    by-place : (i : ℕ)
-        → Says (cond (eqb i 0) (eqb (firstLine f i) 0) (ltb (firstLine f (i - 1)) (firstLine f i)))
-        ((i ≡ 0 → firstLine f i ≡ 0) × ((i ≡ 0 → ⊥) → firstLine f (i - 1) < firstLine f i))
-    by-place zero = ((λ e. ((λ z. eqb-true _ _ e), λ n. absurd (n refl))), λ w. eq-eqb _ _ (w .0 refl))
-    by-place (suc i) =
-        let n : suc i ≡ 0 → ⊥ = omega arith in
-        rw (ne-eqb (suc i) 0 n)
-        ((λ e. ((λ z. absurd (n z)), λ m. ltb-true _ _ e)), λ w. lt-ltb _ _ (w .1 n))
+says-starts f zero =
+    let w = says-and (says-lt (firstLine f 0) (f .lines)) (eqb-true (firstLine f 0) 0, eq-eqb (firstLine f 0) 0) in
+    ((λ e. (w .0 e .0, (λ z. w .0 e .1), λ n. absurd (n refl))), λ s. w .1 (s .0, s .1 refl))
+says-starts f (suc i) =
+    let n : suc i ≡ 0 → ⊥ = omega arith in
+    let w = says-and (says-lt (firstLine f (suc i)) (f .lines)) (says-lt (firstLine f (suc i - 1)) (firstLine f (suc i))) in
+    rw (ne-eqb (suc i) 0 n) ((λ e. (w .0 e .0, (λ z. absurd (n z)), λ m. w .0 e .1)), λ s. w .1 (s .0, s .2 n))
 
--- 8 to 13 at one region, with its mode, its sequence, that sequence's pattern and its size
-pub record RegionObeys (m : Mode) (s : Sequence) (a : Pattern) (size : ℕ) : Type 0 where
-  pub given : s .present ≡ true
-  pub length : a .length ≡ 0 → ⊥
-  pub toggles : (k : ℕ) → k < 6 → Rises m a k
-  pub masks : Masks m (s .mask) a
-  pub counts : Counts m s a
-  pub ends : Ends m s a size
+module _ (p : Profile) where
+  abbrev t : Tables
+  t = p .tables
 
-module _ (i : ℕ) (m : Mode) (s : Sequence) (a : Pattern) (size : ℕ) where
-  abbrev outputs : List Entry
-  outputs = chunks 6 (toggleEntries i m a)
+  abbrev f : Field
+  f = p .field
 
-  abbrev firsts : List Entry
-  firsts = rule 8 i (s .present) ∷ rule 9 i (not (eqb (a .length) 0)) ∷ []
+  says-line : Says (all (map (λ (g : ℕ). ltb g (f .lines)) (gateLines f))) (f .gate < f .lines)
+  says-line = says-one (says-lt (f .gate) (f .lines))
 
-  outputs-numbered : Numbered outputs
-  outputs-numbered = numbered-chunks 6 (toggleEntries i m a) (numbered-output i m a)
-
-  says-output : (k : ℕ) → (firstBroken (toggleEntries i m a k) ≡ accepted) ↔ Rises m a k
-  says-output k = says-fine _ _ (refused 10 i) (lit≤ tt) (says-toggles m a k)
-
-  region-obeyed : firstBroken (entriesAt i m s a size) ≡ accepted → RegionObeys m s a size
-  unfolding entriesAt
-  region-obeyed e =
-      let d = fine-left firsts (outputs ++ runEntries i m s a size) (lit≤ tt, (lit≤ tt, tt)) e in
-      let b = fine-right firsts (outputs ++ runEntries i m s a size) (lit≤ tt, (lit≤ tt, tt)) e in
-      let h = entries-hold firsts (lit≤ tt, (lit≤ tt, tt)) d in
-      let r = fine-right outputs (runEntries i m s a size) outputs-numbered b in
-      let g = entries-hold (runEntries i m s a size) (lit≤ tt, (lit≤ tt, (lit≤ tt, tt))) r in
-      let o = fine-left outputs (runEntries i m s a size) outputs-numbered b in
-      record {
-        given = h .0;
-        length = says-ne (a .length) 0 .0 (h .1 .0);
-        toggles = λ k l. says-output k .0 (fine-chunk 6 (toggleEntries i m a) (numbered-output i m a) o k l);
-        masks = says-mask m (s .mask) a .0 (g .0);
-        counts = says-counts m s a .0 (g .1 .0);
-        ends = says-ends m s a size .0 (g .1 .1 .0);
-      }
-
-  obeyed-region : RegionObeys m s a size → firstBroken (entriesAt i m s a size) ≡ accepted
-  unfolding entriesAt
-  obeyed-region o =
-      fine-then firsts (outputs ++ runEntries i m s a size) (lit≤ tt, (lit≤ tt, tt))
-      (hold-accepted firsts (o .given, (says-ne (a .length) 0 .1 (o .length), tt)))
-      ∙ fine-then outputs (runEntries i m s a size) outputs-numbered
-      (chunks-fine 6 (toggleEntries i m a) (numbered-output i m a) (λ k l. says-output k .1 (o .toggles k l)))
-      ∙ hold-accepted (runEntries i m s a size)
-      (says-mask m (s .mask) a .1 (o .masks), (says-counts m s a .1 (o .counts), (says-ends m s a size .1 (o .ends), tt)))
-
-  region-says : (firstBroken (entriesAt i m s a size) ≡ accepted) ↔ RegionObeys m s a size
-  region-says = (region-obeyed, obeyed-region)
-
--- 14
-module _ (t : Tables) (f : Field) where
-  gate-line-says : Says (all (map (λ (g : ℕ). ltb g (f .lines)) (gateLines f))) (f .gate < f .lines)
-  gate-line-says = says-one (says-lt (f .gate) (f .lines))
-
-  second-says :
+  says-seconds :
       Says (not (hasSecond f) || all (map (secondRight t f (secondOf t f)) (gateLines f)))
       ((f .second ≡ 65535 → ⊥) → Seconds t f (secondOf t f) (f .gate))
-  second-says = says-where (says-ne (f .second) 65535) (says-one (says-second t f (secondOf t f) (f .gate)))
+  says-seconds = says-where (says-ne (f .second) 65535) (says-one (says-second t f (secondOf t f) (f .gate)))
 
-  lines-say :
-      (firstBroken (lineEntries t f) ≡ accepted)
-      ↔ ((f .gate < f .lines) × ((f .second ≡ 65535 → ⊥) → Seconds t f (secondOf t f) (f .gate)))
-  unfolding lineEntries
-  lines-say = (
-    (λ e.
-        let h = entries-hold (lineEntries t f) (numbered-lines t f) e in
-        (gate-line-says .0 (h .0), second-says .0 (h .1 .0))),
-    λ w. hold-accepted (lineEntries t f) (gate-line-says .1 (w .0), (second-says .1 (w .1), tt)),
-  )
+  says-pulses : (k : ℕ)
+      → Says (all (map (λ (g : ℕ). gateRight (getD (t .gates) k emptyGate) (lineLength t f g)) (gateLines f)))
+      (Pulses (getD (t .gates) k emptyGate) (lineLength t f (f .gate)))
+  says-pulses k = says-one (says-gate (getD (t .gates) k emptyGate) (lineLength t f (f .gate)))
 
--- ---- the whole list
+  -- ---- the parts of the list
 
-fine-both : (a b : List Entry) → Numbered a → (firstBroken (a ++ b) ≡ accepted) ↔ ((firstBroken a ≡ accepted) × (firstBroken b ≡ accepted))
-fine-both a b n = ((λ e. (fine-left a b n e, fine-right a b n e)), λ w. fine-then a b n (w .0) ∙ w .1)
+  -- 5, 6, then 7 to 17
+  abbrev entriesOf : List Entry
+  entriesOf = rule 5 0 (inRange p) ∷ rule 6 0 (f .present) ∷ rulesOf t f
 
-fine-each : (n : ℕ) (f : ℕ → List Entry) (A : ℕ → Type 0) → ((i : ℕ) → Numbered (f i)) → ((i : ℕ) → (firstBroken (f i) ≡ accepted) ↔ A i)
-    → (firstBroken (chunks n f) ≡ accepted) ↔ ((i : ℕ) → i < n → A i)
-fine-each n f A m s = ((λ e i h. s i .0 (fine-chunk n f m e i h)), λ w. chunks-fine n f m (λ i h. s i .1 (w i h)))
+  check-entries : checkProfile p ≡ firstBroken entriesOf
+  unfolding checkProfile judge firstBroken
+  check-entries = refl
 
-module _ (t : Tables) (f : Field) where
+  numbered : Numbered entriesOf
+  numbered = (lit≤ tt, (lit≤ tt, numbered-rules t f))
+
   abbrev order : List Entry
   order = chunks (regionCount f) (orderEntries f)
 
@@ -207,168 +199,259 @@ module _ (t : Tables) (f : Field) where
   abbrev shutters : List Entry
   shutters = chunks 2 (shutterEntries t f)
 
-  -- the fronts of the list: 7 to 13, 14, 15 and 16
-  abbrev to-13 : List Entry
-  to-13 = order ++ regions
-
   abbrev to-14 : List Entry
-  to-14 = to-13 ++ lineEntries t f
-
-  abbrev to-15 : List Entry
-  to-15 = to-14 ++ gates
+  to-14 = order ++ regions ++ lineEntries t f
 
   abbrev to-16 : List Entry
-  to-16 = to-15 ++ subckEntries t
+  to-16 = to-14 ++ gates ++ subckEntries t
 
-  -- each is numbered, since the whole is
-  numbered-16 : Numbered to-16
-  unfolding rulesOf
-  numbered-16 = numbered-left to-16 shutters (numbered-rules t f)
+  abbrev outputs : ℕ → List Entry
+  outputs i = chunks 6 (toggleEntries i (regionAt f i .mode) (patternAt t f i))
 
-  numbered-15 : Numbered to-15
-  numbered-15 = numbered-left to-15 (subckEntries t) numbered-16
+  abbrev runs : ℕ → List Entry
+  runs i = runEntries i (regionAt f i .mode) (sequenceAt t f i) (patternAt t f i) (regionSize t f i)
 
-  numbered-14 : Numbered to-14
-  numbered-14 = numbered-left to-14 gates numbered-15
+  -- ---- a rule that holds passes its tests
 
-  numbered-13 : Numbered to-13
-  numbered-13 = numbered-left to-13 (lineEntries t f) numbered-14
+  abbrev Passes : Entry → Type 0
+  Passes e = Rule p (e .verdict .number) (e .verdict .place) → e .holds ≡ true
 
-  numbered-7 : Numbered order
-  numbered-7 = numbered-left order regions numbered-13
+  passes-region : (i : ℕ) → i < regionCount f → Each Passes (regionEntries t f i)
+  unfolding entriesAt
+  passes-region i h =
+      let m = regionAt f i .mode in
+      let s = sequenceAt t f i in
+      let a = patternAt t f i in (
+        (λ r. r .sequence-given refl h),
+        (
+          (λ r. says-ne (a .length) 0 .1 (r .pattern-length refl h)),
+          each-append Passes (outputs i) (runs i)
+              (each-chunks Passes 6 (toggleEntries i m a) (λ k l. ((λ r. says-toggles m a k .1 (r .toggle-order refl h k l)), tt))) (
+                (λ r. says-mask m (s .mask) a .1 (r .mask refl h)),
+                (
+                  (λ r. says-counts m s a .1 (r .repetitions refl h)),
+                  ((λ r. says-ends m s a (regionSize t f i) .1 (r .run-ends refl h)), tt),
+                ),
+              ),
+        ),
+      )
 
-  order-says : (firstBroken order ≡ accepted) ↔ ((i : ℕ) → i < regionCount f → Starts f i)
-  order-says =
-      fine-each (regionCount f) (orderEntries f) (λ i. Starts f i) (numbered-order t f)
-      (λ i. says-fine _ _ (refused 7 i) (lit≤ tt) (says-starts f i))
+  passes : Each Passes entriesOf
+  unfolding rulesOf lineEntries
+  passes = (
+    (λ r. says-range p .1 (r .values refl refl)),
+    (
+      (λ r. r .field-given refl refl),
+      each-append Passes to-16 shutters
+          (each-append Passes (to-14 ++ gates) (subckEntries t)
+          (each-append Passes to-14 gates
+          (each-append Passes (order ++ regions) (lineEntries t f)
+          (each-append Passes order regions
+          (each-chunks Passes (regionCount f) (orderEntries f) (λ i h. ((λ r. says-starts f i .1 (r .region-order refl h)), tt)))
+          (each-chunks Passes (regionCount f) (regionEntries t f) passes-region)) (
+            (λ r. says-line .1 (r .gate-line refl refl .0)),
+            ((λ r. says-seconds .1 (r .gate-line refl refl .1)), tt),
+          ))
+          (each-chunks Passes 5 (gateEntries t f) (λ k h. ((λ r. says-pulses k .1 (r .gate-pulse refl h)), tt))))
+          ((λ r. says-subck (t .subck) .1 (r .subck refl refl)), tt))
+          (each-chunks Passes 2 (shutterEntries t f)
+          (λ k h. ((λ r. says-shutter t f (getD (t .shutters) k emptyShutter) .1 (r .shutter refl h)), tt))),
+    ),
+  )
 
-  abbrev Region : ℕ → Type 0
-  Region i = RegionObeys (regionAt f i .mode) (sequenceAt t f i) (patternAt t f i) (regionSize t f i)
+  -- ---- a rule whose tests pass holds
 
-  regions-say : (firstBroken regions ≡ accepted) ↔ ((i : ℕ) → i < regionCount f → Region i)
-  regions-say =
-      fine-each (regionCount f) (regionEntries t f) (λ i. Region i) (numbered-region t f) (λ i. region-says i _ _ _ _)
+  abbrev At : ℕ → ℕ → Entry → Type 0
+  At n i e = e .verdict .number ≡ n → e .verdict .place ≡ i → e .holds ≡ true
 
-  abbrev GateObeys : ℕ → Type 0
-  GateObeys k =
-      getD (t .gates) k emptyGate .present ≡ true → getD (t .gates) k emptyGate .on ≡ 1
-      → (getD (t .gates) k emptyGate .toggle1 < getD (t .gates) k emptyGate .toggle2)
-      × (getD (t .gates) k emptyGate .toggle2 < lineLength t f (f .gate))
+  module _ (n i : ℕ) (w : Each (At n i) entriesOf) where
+    all-rules : Each (At n i) (rulesOf t f)
+    all-rules = w .1 .1
 
-  gates-say : (firstBroken gates ≡ accepted) ↔ ((k : ℕ) → k < 5 → GateObeys k)
-  gates-say =
-      fine-each 5 (gateEntries t f) (λ k. GateObeys k) (numbered-gates t f)
-      (λ k. says-fine _ _ (refused 15 k) (lit≤ tt) (says-one (says-gate (getD (t .gates) k emptyGate) (lineLength t f (f .gate)))))
+    up-16 : Each (At n i) to-16
+    unfolding rulesOf
+    up-16 = each-left (At n i) to-16 shutters all-rules
 
-  subck-says : (firstBroken (subckEntries t) ≡ accepted) ↔ (t .subck .present ≡ true → (t .subck .toggle1 < t .subck .toggle2) × (1 ≤ t .subck .suppressed))
-  subck-says = says-fine _ _ (refused 16 0) (lit≤ tt) (says-subck (t .subck))
+    up-15 : Each (At n i) (to-14 ++ gates)
+    up-15 = each-left (At n i) (to-14 ++ gates) (subckEntries t) up-16
 
-  abbrev ShutterObeys : ℕ → Type 0
-  ShutterObeys k = getD (t .shutters) k emptyShutter .present ≡ true → Shuts t f (getD (t .shutters) k emptyShutter)
+    up-14 : Each (At n i) to-14
+    up-14 = each-left (At n i) to-14 gates up-15
 
-  shutters-say : (firstBroken shutters ≡ accepted) ↔ ((k : ℕ) → k < 2 → ShutterObeys k)
-  shutters-say =
-      fine-each 2 (shutterEntries t f) (λ k. ShutterObeys k) (numbered-shutters t f)
-      (λ k. says-fine _ _ (refused 17 k) (lit≤ tt) (says-shutter t f (getD (t .shutters) k emptyShutter)))
+    up-13 : Each (At n i) (order ++ regions)
+    up-13 = each-left (At n i) (order ++ regions) (lineEntries t f) up-14
 
-  rules-obeyed : firstBroken (rulesOf t f) ≡ accepted → Obeys t f
-  unfolding rulesOf
-  rules-obeyed e =
-      let e5 = fine-both to-16 shutters numbered-16 .0 e in
-      let e4 = fine-both to-15 (subckEntries t) numbered-15 .0 (e5 .0) in
-      let e3 = fine-both to-14 gates numbered-14 .0 (e4 .0) in
-      let e2 = fine-both to-13 (lineEntries t f) numbered-13 .0 (e3 .0) in
-      let e1 = fine-both order regions numbered-7 .0 (e2 .0) in
-      let o = order-says .0 (e1 .0) in
-      let r = regions-say .0 (e1 .1) in
-      let g = lines-say t f .0 (e2 .1) in
-      record {
-        rule-7-first = λ h. o 0 h .1 .0 refl;
-        rule-7-rise = λ i h. rw (add-sub-cancel i 1) at (o (i + 1) h .1 .1 (omega arith));
-        rule-7-below = λ i h. o i h .0;
-        rule-8 = λ i h. r i h .given;
-        rule-9 = λ i h. r i h .length;
-        rule-10 = λ i k h l. r i h .toggles k l;
-        rule-11 = λ i h. r i h .masks;
-        rule-12 = λ i h. r i h .counts;
-        rule-13 = λ i h. r i h .ends;
-        rule-14-gate = g .0;
-        rule-14-second = g .1;
-        rule-15 = gates-say .0 (e3 .1);
-        rule-16 = subck-says .0 (e4 .1);
-        rule-17 = shutters-say .0 (e5 .1);
-      }
+    of-lines : Each (At n i) (lineEntries t f)
+    of-lines = each-right (At n i) (order ++ regions) (lineEntries t f) up-14
 
-  module _ (o : Obeys t f) where
-    starts : (i : ℕ) → i < regionCount f → Starts f i
-    starts i h = (o .rule-7-below i h, ((λ z. rw z (o .rule-7-first (omega arith))), rise i h))
-      where
-        rise : (i : ℕ) → i < regionCount f → (i ≡ 0 → ⊥) → firstLine f (i - 1) < firstLine f i
-        rise zero l n = absurd (n refl)
-        rise (suc i) l n =
-            let e : suc i ≡ i + 1 = omega arith in
-            let d : i + 1 - 1 ≡ i = omega arith in
-            rw (e, d) (o .rule-7-rise i (omega arith))
+    module _ (h : i < regionCount f) where
+      of-order : Each (At n i) (orderEntries f i)
+      of-order = each-chunk (At n i) (regionCount f) (orderEntries f) (each-left (At n i) order regions up-13) i h
 
-    region-obeys : (i : ℕ) → i < regionCount f → Region i
-    region-obeys i h =
+      of-region : Each (At n i) (regionEntries t f i)
+      of-region = each-chunk (At n i) (regionCount f) (regionEntries t f) (each-right (At n i) order regions up-13) i h
+
+      of-outputs : (k : ℕ) → k < 6 → Each (At n i) (toggleEntries i (regionAt f i .mode) (patternAt t f i) k)
+      unfolding entriesAt
+      of-outputs k l =
+          each-chunk (At n i) 6 (toggleEntries i (regionAt f i .mode) (patternAt t f i))
+          (each-left (At n i) (outputs i) (runs i) (of-region .1 .1)) k l
+
+      of-runs : Each (At n i) (runs i)
+      unfolding entriesAt
+      of-runs = each-right (At n i) (outputs i) (runs i) (of-region .1 .1)
+
+    holds : Rule p n i
+    unfolding rulesOf entriesAt lineEntries
+    holds =
+        let m = regionAt f i .mode in
+        let s = sequenceAt t f i in
+        let a = patternAt t f i in
         record {
-          given = o .rule-8 i h;
-          length = o .rule-9 i h;
-          toggles = λ k l. o .rule-10 i k h l;
-          masks = o .rule-11 i h;
-          counts = o .rule-12 i h;
-          ends = o .rule-13 i h;
+          values = λ e z. says-range p .0 (w .0 (sym e) (sym z));
+          field-given = λ e z. w .1 .0 (sym e) (sym z);
+          region-order = λ e h. says-starts f i .0 (of-order h .0 (sym e) refl);
+          sequence-given = λ e h. of-region h .0 (sym e) refl;
+          pattern-length = λ e h. says-ne (a .length) 0 .0 (of-region h .1 .0 (sym e) refl);
+          toggle-order = λ e h k l. says-toggles m a k .0 (of-outputs h k l .0 (sym e) refl);
+          mask = λ e h. says-mask m (s .mask) a .0 (of-runs h .0 (sym e) refl);
+          repetitions = λ e h. says-counts m s a .0 (of-runs h .1 .0 (sym e) refl);
+          run-ends = λ e h. says-ends m s a (regionSize t f i) .0 (of-runs h .1 .1 .0 (sym e) refl);
+          gate-line = λ e z. (says-line .0 (of-lines .0 (sym e) (sym z)), says-seconds .0 (of-lines .1 .0 (sym e) (sym z)));
+          gate-pulse = λ e h.
+              says-pulses i .0
+              (each-chunk (At n i) 5 (gateEntries t f) (each-right (At n i) to-14 gates up-15) i h .0 (sym e) refl);
+          subck = λ e z. says-subck (t .subck) .0 (each-right (At n i) (to-14 ++ gates) (subckEntries t) up-16 .0 (sym e) (sym z));
+          shutter = λ e h.
+              says-shutter t f (getD (t .shutters) i emptyShutter) .0
+              (each-chunk (At n i) 2 (shutterEntries t f) (each-right (At n i) to-16 shutters all-rules) i h .0 (sym e) refl);
         }
 
-    obeyed-rules : firstBroken (rulesOf t f) ≡ accepted
-    unfolding rulesOf
-    obeyed-rules =
-        fine-then to-16 shutters numbered-16
-        (fine-then to-15 (subckEntries t) numbered-15
-        (fine-then to-14 gates numbered-14
-        (fine-then to-13 (lineEntries t f) numbered-13
-        (fine-then order regions numbered-7 (order-says .1 starts) ∙ regions-say .1 region-obeys)
-        ∙ lines-say t f .1 (o .rule-14-gate, o .rule-14-second))
-        ∙ gates-say .1 (o .rule-15))
-        ∙ subck-says .1 (o .rule-16))
-        ∙ shutters-say .1 (o .rule-17)
+  -- ---- the entries rise in the stated order, whatever the number of regions
 
-  pub rules-say : (firstBroken (rulesOf t f) ≡ accepted) ↔ Obeys t f
-  rules-say = (rules-obeyed, obeyed-rules)
+  rising-rules : (n : ℕ) → n ≤ 7
+      → rising 0
+      (rule 5 0 (inRange p)
+      ∷ rule 6 0 (f .present)
+      ∷ (chunks n (orderEntries f)
+      ++ chunks n (regionEntries t f)
+      ++ lineEntries t f
+      ++ chunks 5 (gateEntries t f)
+      ++ subckEntries t
+      ++ chunks 2 (shutterEntries t f)))
+      ≡ true
+  unfolding rising chunks entriesAt lineEntries
+  rising-rules zero h = refl
+  rising-rules (suc zero) h = refl
+  rising-rules (suc (suc zero)) h = refl
+  rising-rules (suc (suc (suc zero))) h = refl
+  rising-rules (suc (suc (suc (suc zero)))) h = refl
+  rising-rules (suc (suc (suc (suc (suc zero))))) h = refl
+  rising-rules (suc (suc (suc (suc (suc (suc zero)))))) h = refl
+  rising-rules (suc (suc (suc (suc (suc (suc (suc zero))))))) h = refl
+  rising-rules (suc (suc (suc (suc (suc (suc (suc (suc n)))))))) h = absurd (omega arith)
+
+  rises : rising 0 entriesOf ≡ true
+  unfolding rulesOf
+  rises = rising-rules (regionCount f) (omega arith)
+
+  -- ---- the first broken entry is the first broken rule
+
+  module _ (w : First entriesOf) where
+    abbrev at : Verdict
+    at = w .entry .verdict
+
+    not-before : (m j : ℕ) → Earlier m j (at .number) (at .place) → (d : Entry) → Above (key (w .entry)) d → At m j d
+    not-before m j e d a n i =
+        let v = d .verdict in
+        let l : Earlier (v .number) (v .place) (at .number) (at .place) = rw (n, i) e in
+        absurd (omega (arith, a .0, earlier-less (turn (v .number)) (v .place) (v .number) (turn (at .number)) (at .place) (at .number) (a .1 .0) (a .1 .1) l))
+
+    first-is : FirstBroken p (at .number) (at .place)
+    first-is =
+        record {
+          broken = λ r.
+              let q = each-right Passes (w .before) (w .entry ∷ w .after) (subst (λ (es : List Entry). Each Passes es) (w .there) passes) .0 in
+              false≢true (sym (w .broken) ∙ q r);
+          before = λ m j e.
+              holds m j
+              (subst (λ (es : List Entry). Each (At m j) es) (sym (w .there))
+              (each-append (At m j) (w .before) (w .entry ∷ w .after)
+              (each-map (λ d. d .holds ≡ true) (At m j) (λ d h n i. h) (w .before) (w .hold))
+              (each-map (Above (key (w .entry))) (At m j) (not-before m j e) (w .entry ∷ w .after)
+              (rising-from 0 (w .before) (w .entry) (w .after)
+              (subst (λ (es : List Entry). rising 0 es ≡ true) (w .there) rises)))));
+        }
+
+  -- every rule holds, or one is the first that does not
+  abbrev pub Judged : Verdict → Type 0
+  Judged v = (((n i : ℕ) → Rule p n i) × (v ≡ accepted)) ⊎ FirstBroken p (v .number) (v .place)
+
+  pub check-judged : Judged (checkProfile p)
+  check-judged = subst Judged (sym check-entries) (go (first-broken entriesOf))
+    where
+      go : Hold entriesOf ⊎ First entriesOf → Judged (firstBroken entriesOf)
+      go (inl h) = inl (
+        (λ n i. holds n i (each-map (λ d. d .holds ≡ true) (At n i) (λ d h n i. h) entriesOf h)),
+        hold-accepted entriesOf h,
+      )
+      go (inr w) = inr (subst (λ (v : Verdict). FirstBroken p (v .number) (v .place)) (sym (w .named)) (first-is w))
+
+  -- no rule has the number 0
+  rule-0 : (i : ℕ) → Rule p 0 i
+  rule-0 i =
+      holds 0 i (each-map (λ e. 1 ≤ e .verdict .number) (At 0 i) (λ e h z. absurd (omega (arith, h, z))) entriesOf numbered)
+
+named-so : (v : Verdict) (n i : ℕ) → v .number ≡ n → v .place ≡ i → v ≡ refused n i
+named-so v n i e z = ap (λ (m : ℕ). refused m (v .place)) e ∙ ap (λ (j : ℕ). refused n j) z
 
 -- ---- the whole check
 
--- "A profile is accepted exactly when it breaks no rule of 01": it is in range, has a field, and obeys
-abbrev pub Obedient : Profile → Type 0
-Obedient p = Ranged p × (p .field .present ≡ true) × Obeys (p .tables) (p .field)
-
-pub accepted-exactly : (p : Profile) → (checkProfile p ≡ accepted) ↔ Obedient p
-accepted-exactly p = (to, from)
+-- "A profile is accepted exactly when it breaks no rule of 01"
+pub accepted-exactly : (p : Profile) → (checkProfile p ≡ accepted) ↔ ((n i : ℕ) → Rule p n i)
+accepted-exactly p = ((λ e. to e (check-judged p)), λ r. from r (check-judged p))
   where
-    to : checkProfile p ≡ accepted → Obedient p
-    to e =
-        let r = check-range p e in
-        let j = sym (check-judge p r) ∙ e in
-        let h = judge-field p j in
-        (says-range p .0 r, h, rules-say (p .tables) (p .field) .0 (sym (judge-rules p h) ∙ j))
+    to : checkProfile p ≡ accepted → Judged p (checkProfile p) → (n i : ℕ) → Rule p n i
+    to e (inl w) = w .0
+    to e (inr w) = absurd (subst (λ (v : Verdict). FirstBroken p (v .number) (v .place)) e w .broken (rule-0 p 0))
 
-    from : Obedient p → checkProfile p ≡ accepted
-    from w =
-        check-judge p (says-range p .1 (w .0)) ∙ judge-rules p (w .1) ∙ rules-say (p .tables) (p .field) .1 (w .2)
+    from : ((n i : ℕ) → Rule p n i) → Judged p (checkProfile p) → checkProfile p ≡ accepted
+    from r (inl w) = w .1
+    from r (inr w) = absurd (w .broken (r (checkProfile p .number) (checkProfile p .place)))
 
--- "else the first broken rule in the stated order is named": 5, 6, then 7 to 17
-pub refused-first : (p : Profile) → (checkProfile p ≡ accepted → ⊥) → First (entriesOf p) (checkProfile p)
-refused-first p n = go (first-broken (entriesOf p))
+-- "else the first broken rule in the stated order is named": its number and its place
+pub refused-exactly : (p : Profile) (n i : ℕ) → 1 ≤ n → (checkProfile p ≡ refused n i) ↔ FirstBroken p n i
+refused-exactly p n i h = ((λ e. to e (check-judged p)), λ b. from b (check-judged p))
   where
-    go : (Hold (entriesOf p) × (firstBroken (entriesOf p) ≡ accepted)) ⊎ First (entriesOf p) (firstBroken (entriesOf p)) → First (entriesOf p) (checkProfile p)
-    go (inl w) = absurd (n (check-entries p ∙ w .1))
-    go (inr f) = rw check-entries f
+    to : checkProfile p ≡ refused n i → Judged p (checkProfile p) → FirstBroken p n i
+    to e (inl w) = absurd (omega (arith, h, ap (λ (v : Verdict). v .number) (sym e ∙ w .1)))
+    to e (inr w) = subst (λ (v : Verdict). FirstBroken p (v .number) (v .place)) e w
 
--- rule 7 of an accepted profile: its regions' lines follow one another
+    from : FirstBroken p n i → Judged p (checkProfile p) → checkProfile p ≡ refused n i
+    from b (inl w) = absurd (b .broken (w .0 n i))
+    from b (inr w) =
+        let v = checkProfile p in
+        let s = same-rule (v .number) (v .place) n i (λ e. w .broken (b .before (v .number) (v .place) e)) (λ e. b .broken (w .before n i e)) in
+        named-so v n i (s .0) (s .1)
+
+-- a broken rule has a number
+pub broken-number : (p : Profile) (n i : ℕ) → FirstBroken p n i → 1 ≤ n
+broken-number p zero i b = absurd (b .broken (rule-0 p i))
+broken-number p (suc n) i b = omega arith
+
+-- ---- what an accepted profile has
+
+pub accepted-field : (p : Profile) → checkProfile p ≡ accepted → p .field .present ≡ true
+accepted-field p e = accepted-exactly p .0 e 6 0 .field-given refl refl
+
+-- rule 7: its regions' lines follow one another
 pub accepted-ordered : (p : Profile) → checkProfile p ≡ accepted → Ordered (p .field)
 accepted-ordered p e =
-    let w = accepted-exactly p .0 e in
-    let o = w .2 in
-    let some = regions-some p (check-range p e) (w .1) in
-    record { some = some; zero = o .rule-7-first some; rise = o .rule-7-rise; below = o .rule-7-below }
+    let starts : (i : ℕ) → i < regionCount (p .field) → Starts (p .field) i = λ i. accepted-exactly p .0 e 7 i .region-order refl in
+    let some = regions-some p (check-range p e) (accepted-field p e) in
+    record {
+      some = some;
+      zero = starts 0 some .1 refl;
+      rise = λ i h. rw (add-sub-cancel i 1) at (starts (i + 1) h .2 (omega arith));
+      below = λ i h. starts i h .0;
+    }

@@ -12,7 +12,7 @@ use lib.Dec.{ltb, leb, eqb}
 use lib.ListN.{length, getD, take, drop, length-take, List·getD-eq-default}
 use lib.Seq.{getD-take, getD-drop}
 use Rattle.profile.specs.Lists.{all, chunks}
-use Rattle.profile.specs.Bytes.{twoBytes, threeBytes}
+use Rattle.profile.specs.Bytes.{Bytes, twoBytes, threeBytes}
 use Rattle.profile.specs.Values.{modeNumber, emptySequence, emptyGate, emptyShutter}
 use Rattle.profile.specs.Geometry.{regionCount, regionAt}
 use Rattle.profile.specs.Ranges.{sequenceRange, fieldRange, regionRange, gateRange, subckRange, shutterRange, regionIn, inRange}
@@ -51,10 +51,6 @@ use Rattle.profile.proofs.Items.{
   field-present,
   region-present,
 }
-
--- every element is a byte: what a slice of bytes gives in code
-pub record Bytes (s : List ℕ) : Type 0 where
-  pub at : (i : ℕ) → getD s i 0 < 256
 
 pub bytes-nil : Bytes []
 bytes-nil = record { at = λ i. omega arith }

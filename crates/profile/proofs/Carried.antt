@@ -80,21 +80,21 @@ half-within h i a b =
 
 -- ---- items, present and absent
 
-sequence-says : (s : Sequence) → Says (all (sequenceRange s)) (SequenceRanged s)
+pub sequence-says : (s : Sequence) → Says (all (sequenceRange s)) (SequenceRanged s)
 sequence-says s = (
   (λ e. let w = passed (sequenceRange s) e in omega (arith, leb-true)),
   λ w. all-passed (sequenceRange s) (omega (arith, le-leb)),
 )
 
-gate-says : (g : Gate) → Says (all (gateRange g)) (GateRanged g)
+pub gate-says : (g : Gate) → Says (all (gateRange g)) (GateRanged g)
 gate-says g =
     ((λ e. let w = passed (gateRange g) e in omega (arith, leb-true)), λ w. all-passed (gateRange g) (omega (arith, le-leb)))
 
-subck-says : (s : Subck) → Says (all (subckRange s)) (SubckRanged s)
+pub subck-says : (s : Subck) → Says (all (subckRange s)) (SubckRanged s)
 subck-says s =
     ((λ e. let w = passed (subckRange s) e in omega (arith, leb-true)), λ w. all-passed (subckRange s) (omega (arith, le-leb)))
 
-shutter-says : (s : Shutter) → Says (all (shutterRange s)) (ShutterRanged s)
+pub shutter-says : (s : Shutter) → Says (all (shutterRange s)) (ShutterRanged s)
 shutter-says s = (
   (λ e. let w = passed (shutterRange s) e in omega (arith, leb-true)),
   λ w. all-passed (shutterRange s) (omega (arith, le-leb)),
@@ -103,7 +103,7 @@ shutter-says s = (
 second-says : (second : ℕ) → Says (eqb second 65535 || leb second 9) ((second ≡ 65535) ⊎ (second ≤ 9))
 second-says second = says-or (says-eq second 65535) (says-le second 9)
 
-field-says : (f : Field) → Says (all (fieldRange f)) (FieldRanged f)
+pub field-says : (f : Field) → Says (all (fieldRange f)) (FieldRanged f)
 field-says f = (
   (λ e.
       let w = passed (fieldRange f) e in

@@ -1,4 +1,4 @@
--- Laws that are cited everywhere: choices by tests, `all`, `chunks`, `sum`, `lastStart` and `over`, each over any index, number or list.
+-- Laws that are cited everywhere: choices by tests, `all`, `Each`, `chunks`, `sum`, `lastStart` and `over`, each over any index, number or list.
 -- Assumes nothing.
 use mathlib.Core.Path.{_≡_, refl, sym, ap, _∙_}
 use mathlib.Core.Bool.{Bool, true, false, cond, not, _&&_, _||_, false≢true}
@@ -12,7 +12,7 @@ use borrow.Author.Tests.{not-true, not-false, leb-true, leb-false, le-leb, lt-le
 use lib.ListN.{length, length-map, getD, length-append, List·getD-append}
 use lib.Seq.{getD-append-add}
 use lib.Dec.{leb, eqb}
-use Rattle.profile.specs.Lists.{all, chunks, sum, lastStart}
+use Rattle.profile.specs.Lists.{Each, all, chunks, sum, lastStart}
 
 -- ---- choices by a test
 
@@ -354,3 +354,35 @@ module _ (start : ℕ → ℕ) (x : ℕ) where
   unfolding lastStart
   last-none zero h = refl
   last-none (suc i) h = absurd (omega arith)
+
+-- ---- a claim of each element
+
+pub each-map : {A : Type 0} (P Q : A → Type 0) → ((x : A) → P x → Q x) → (xs : List A) → Each P xs → Each Q xs
+each-map P Q f [] w = tt
+each-map P Q f (x ∷ xs) w = (f x (w .0), each-map P Q f xs (w .1))
+
+module _ {A : Type 0} (P : A → Type 0) where
+  pub each-append : (a b : List A) → Each P a → Each P b → Each P (a ++ b)
+  each-append [] b v w = w
+  each-append (x ∷ a) b v w = (v .0, each-append a b (v .1) w)
+
+  pub each-left : (a b : List A) → Each P (a ++ b) → Each P a
+  each-left [] b w = tt
+  each-left (x ∷ a) b w = (w .0, each-left a b (w .1))
+
+  pub each-right : (a b : List A) → Each P (a ++ b) → Each P b
+  each-right [] b w = w
+  each-right (x ∷ a) b w = each-right a b (w .1)
+
+  pub each-chunks : (n : ℕ) (f : ℕ → List A) → ((i : ℕ) → i < n → Each P (f i)) → Each P (chunks n f)
+  unfolding chunks
+  each-chunks zero f w = tt
+  each-chunks (suc n) f w = each-append (chunks n f) (f n) (each-chunks n f (λ i l. w i (omega arith))) (w n (omega arith))
+
+  pub each-chunk : (n : ℕ) (f : ℕ → List A) → Each P (chunks n f) → (i : ℕ) → i < n → Each P (f i)
+  unfolding chunks
+  each-chunk zero f w i l = absurd (omega arith)
+  each-chunk (suc n) f w i l =
+      by-cases (eqb i n)
+      (λ q. rw (eqb-true i n q) (each-right (chunks n f) (f n) w))
+      (λ q. each-chunk n f (each-left (chunks n f) (f n) w) i (omega (arith, eqb-false i n q)))

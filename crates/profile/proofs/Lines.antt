@@ -18,6 +18,7 @@ use Rattle.profile.specs.Geometry.{
   regionAt,
   firstLine,
   endLine,
+  Ordered,
   regionOf,
   sequenceOf,
   sequenceAt,
@@ -153,13 +154,7 @@ pub end-last : (f : Field) (i : ℕ) → regionCount f ≤ i + 1 → endLine f i
 unfolding endLine
 end-last f i h = rw (le-ltb (i + 1) (regionCount f) h)
 
--- ---- rule 7 as facts: "the first region starts at line 0, starts rise strictly, each is below the line count"
-
-pub record Ordered (f : Field) : Type 0 where
-  pub some : 0 < regionCount f
-  pub zero : firstLine f 0 ≡ 0
-  pub rise : (i : ℕ) → i + 1 < regionCount f → firstLine f i < firstLine f (i + 1)
-  pub below : (i : ℕ) → i < regionCount f → firstLine f i < f .lines
+-- ---- regions in order
 
 module _ (f : Field) (o : Ordered f) where
   -- a later region starts later, by induction on the later one

@@ -11,7 +11,7 @@ use lib.Dec.{ltb, leb, eqb}
 use lib.ListN.{length, getD, set, length-set}
 use lib.Seq.{set-out, getD-set-same, getD-set-other}
 use Rattle.profile.specs.Lists.{all}
-use Rattle.profile.specs.Bytes.{numberAt, dataAt}
+use Rattle.profile.specs.Bytes.{Bytes, numberAt, dataAt}
 use Rattle.profile.specs.Values.{Sized, emptyRegion, emptySequence, emptyGate, emptyShutter}
 use Rattle.profile.specs.Ranges.{
   halfLimit,
@@ -57,7 +57,6 @@ use Rattle.profile.specs.declared.Shutter.{Shutter}
 use Rattle.profile.specs.declared.Profile.{Profile}
 use Rattle.profile.proofs.Laws.{by-cases, and-left, and-right, where-true, passed, all-passed, all-chunks}
 use Rattle.profile.proofs.Items.{Items, field-count, region-inside, region-past}
-use Rattle.profile.proofs.ByteRange.{Bytes}
 use Rattle.profile.proofs.FieldBody.{padded-front, padded-past, length-padded}
 
 -- ---- one thing of six by the kind

@@ -10,7 +10,7 @@ use borrow.Author.Tests.{eqb-true, eqb-false, eq-eqb, ne-eqb}
 use lib.Dec.{leb}
 use lib.ListN.{length}
 use Rattle.profile.specs.Lists.{all, chunks}
-use Rattle.profile.specs.Bytes.{numberAt}
+use Rattle.profile.specs.Bytes.{Bytes, numberAt}
 use Rattle.profile.specs.Values.{
   Sized,
   emptyField,
@@ -31,7 +31,7 @@ use Rattle.profile.proofs.Laws.{cond-case}
 use Rattle.profile.proofs.Checked.{check-judge, judge-number}
 use Rattle.profile.proofs.Takes.{step-taken}
 use Rattle.profile.proofs.Items.{items, items-in}
-use Rattle.profile.proofs.ByteRange.{Bytes, bytes-tail, bytes-part}
+use Rattle.profile.proofs.ByteRange.{bytes-tail, bytes-part}
 use Rattle.profile.proofs.Puts.{put-sized, put-items}
 
 -- ---- one record taken

@@ -34,8 +34,8 @@ use Rattle.profile.specs.declared.Shutter.{Shutter}
 use Rattle.profile.specs.declared.Field.{Field}
 use Rattle.profile.specs.declared.Profile.{Profile}
 use Rattle.profile.proofs.Laws.{cond-case, passed, length-chunks, length-chunks-le, chunk-room}
-use Rattle.profile.proofs.Checked.{check-range, check-judge, judge-field, judge-rules}
-use Rattle.profile.proofs.Accepted.{rules-say}
+use Rattle.profile.proofs.Checked.{check-range}
+use Rattle.profile.proofs.Accepted.{accepted-exactly, accepted-field}
 use Rattle.profile.proofs.Items.{items, field-present, field-count, region-present}
 
 -- what is written only where b holds is at most so long
@@ -101,16 +101,14 @@ script-low p e =
     let t = p .tables in
     let f = p .field in
     let r = items p (check-range p e) in
-    let j = sym (check-judge p (check-range p e)) ∙ e in
-    let h = judge-field p j in
-    let o = sym (judge-rules p h) ∙ j in
+    let h = accepted-field p e in
     let c = field-count f (field-present f (r .field) h) .0 in
     let g = passed (regionRange (regionAt f 0)) (region-present f 0 (r .regions 0 (omega arith)) c) in
     let k = leb-true (regionAt f 0 .sequence) 9 (g .1 .0) in
     omega (
       arith,
       length-script p,
-      sequence-written (t .sequences) (regionAt f 0 .sequence) (omega arith) (rules-say t f .0 o .rule-8 0 (omega arith)),
+      sequence-written (t .sequences) (regionAt f 0 .sequence) (omega arith) (accepted-exactly p .0 e 8 0 .sequence-given refl (omega arith)),
       field-written f h c,
     )
 

@@ -1,8 +1,12 @@
--- Little-endian numbers: "all little-endian, all fields 2 bytes except in kind 1".
+-- Bytes, and little-endian numbers: "all little-endian, all fields 2 bytes except in kind 1".
 -- Assumes nothing.
-use Prim.Native.Nat.{ℕ, _+_, _*_, _/_, _%_}
+use Prim.Native.Nat.{ℕ, _+_, _*_, _/_, _%_, _<_}
 use mathlib.Core.List.{List, [], _∷_}
 use lib.ListN.{getD}
+
+-- every element is a byte: what the type of a slice says in code, and what a theorem over any list has to ask
+pub record Bytes (s : List ℕ) : Type 0 where
+  pub at : (i : ℕ) → getD s i 0 < 256
 
 -- the number of two bytes at a place
 abbrev pub numberAt : List ℕ → ℕ → ℕ

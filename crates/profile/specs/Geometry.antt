@@ -1,6 +1,7 @@
 -- Regions, lines and their lengths, and sums of line lengths.
 -- Assumes nothing.
-use Prim.Native.Nat.{ℕ, _+_, _-_, _*_, _%_, min}
+use Prim.Native.Nat.{ℕ, _+_, _-_, _*_, _%_, _<_, min}
+use mathlib.Core.Path.{_≡_}
 use mathlib.Core.List.{List, [], _∷_}
 use mathlib.Core.Bool.{Bool, cond, _&&_}
 use lib.ListN.{getD}
@@ -27,6 +28,13 @@ firstLine f i = regionAt f i .first
 -- the line after a region's last: where the next region starts, or the field ends
 unfoldable pub endLine : Field → ℕ → ℕ
 endLine f i = cond (ltb (i + 1) (regionCount f)) (firstLine f (i + 1)) (f .lines)
+
+-- regions whose lines follow one another, as rule 7 has them: "the first region starts at line 0, starts rise strictly, each is below the line count"
+pub record Ordered (f : Field) : Type 0 where
+  pub some : 0 < regionCount f
+  pub zero : firstLine f 0 ≡ 0
+  pub rise : (i : ℕ) → i + 1 < regionCount f → firstLine f i < firstLine f (i + 1)
+  pub below : (i : ℕ) → i < regionCount f → firstLine f i < f .lines
 
 -- the region in which a line lies: the last that starts at or before it
 unfoldable pub regionOf : Field → ℕ → ℕ

@@ -7,5 +7,6 @@ pub mod Ranges
 pub mod Rules
 pub mod Obeys
 pub mod Script
+pub mod Records
 pub mod Writing
 pub mod Reading

@@ -1,10 +1,15 @@
--- Lists made chunk by chunk, tests under one `all`, sums over a run of numbers, and the last start at or below a number.
+-- Lists made chunk by chunk, a claim of each element, tests under one `all`, sums over a run of numbers, and the last start at or below a number.
 -- Assumes nothing.
 use Prim.Native.Nat.{ℕ, zero, suc, _+_}
 use mathlib.Core.List.{List, [], _∷_, _++_}
 use mathlib.Core.Bool.{Bool, true, false, cond}
 use lib.Dec.{leb}
 use lib.ListN.{length, drop}
+
+-- a claim of each element
+abbrev pub Each : {A : Type 0} → (A → Type 0) → List A → Type 0
+Each P [] = Unit {0}
+Each P (x ∷ xs) = P x × Each P xs
 
 -- whether every test of a list passes
 unfoldable pub all : List Bool → Bool

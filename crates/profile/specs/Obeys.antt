@@ -1,11 +1,14 @@
--- The ranges and the rules once more, as propositions in document 01's own words. That a profile is accepted exactly where it obeys them is
--- a theorem (proofs/Accepted.antt), so that no rule can be missing from the list of tests.
+-- The ranges and the rules once more, as propositions in document 01's own words: its table "Numbers of refusal", 5 to 17, as one row a number,
+-- with its places and its sentence, and the order of the rows. That a profile is accepted exactly where every row holds, and is refused with
+-- the number and the place of the first that does not, is a theorem (proofs/Accepted.antt), so that no rule can be missing from the list of
+-- tests (specs/Rules.antt), and none can have another number, place or turn there.
 -- Assumes nothing.
-use Prim.Native.Nat.{ℕ, _+_, _*_, _/_, _%_, _≤_, _<_}
+use Prim.Native.Nat.{ℕ, _+_, _-_, _*_, _/_, _%_, _≤_, _<_}
 use mathlib.Core.Path.{_≡_}
 use mathlib.Core.Logic.{_⊎_}
-use mathlib.Core.Bool.{true, false}
+use mathlib.Core.Bool.{true, false, cond, _&&_}
 use lib.ListN.{getD}
+use lib.Dec.{leb}
 use Rattle.profile.specs.Values.{emptyRegion, emptySequence, emptyGate, emptySubck, emptyShutter}
 use Rattle.profile.specs.Geometry.{
   regionCount,
@@ -163,21 +166,55 @@ Shuts t f s =
     Exists t f (s .«on_line») (s .«on_pixel») × Exists t f (s .«off_line») (s .«off_pixel»)
     × Before (s .«on_line») (s .«on_pixel») (s .«off_line») (s .«off_pixel»)
 
--- every rule, 7 to 17
-pub record Obeys (t : Tables) (f : Field) : Type 0 where
-  pub rule-7-first : 0 < regionCount f → firstLine f 0 ≡ 0
-  pub rule-7-rise : (i : ℕ) → i + 1 < regionCount f → firstLine f i < firstLine f (i + 1)
-  pub rule-7-below : (i : ℕ) → i < regionCount f → firstLine f i < f .lines
-  pub rule-8 : (i : ℕ) → i < regionCount f → sequenceAt t f i .present ≡ true
-  pub rule-9 : (i : ℕ) → i < regionCount f → patternAt t f i .length ≡ 0 → ⊥
-  pub rule-10 : (i k : ℕ) → i < regionCount f → k < 6 → Rises (regionAt f i .mode) (patternAt t f i) k
-  pub rule-11 : (i : ℕ) → i < regionCount f → Masks (regionAt f i .mode) (sequenceAt t f i .mask) (patternAt t f i)
-  pub rule-12 : (i : ℕ) → i < regionCount f → Counts (regionAt f i .mode) (sequenceAt t f i) (patternAt t f i)
-  pub rule-13 : (i : ℕ) → i < regionCount f → Ends (regionAt f i .mode) (sequenceAt t f i) (patternAt t f i) (regionSize t f i)
-  pub rule-14-gate : f .gate < f .lines
-  pub rule-14-second : (f .second ≡ 65535 → ⊥) → Seconds t f (secondOf t f) (f .gate)
-  pub rule-15 : (k : ℕ) → k < 5 → getD (t .gates) k emptyGate .present ≡ true → getD (t .gates) k emptyGate .on ≡ 1
-      → (getD (t .gates) k emptyGate .toggle1 < getD (t .gates) k emptyGate .toggle2)
-      × (getD (t .gates) k emptyGate .toggle2 < lineLength t f (f .gate))
-  pub rule-16 : t .subck .present ≡ true → (t .subck .toggle1 < t .subck .toggle2) × (1 ≤ t .subck .suppressed)
-  pub rule-17 : (k : ℕ) → k < 2 → getD (t .shutters) k emptyShutter .present ≡ true → Shuts t f (getD (t .shutters) k emptyShutter)
+-- 7 at region i: "the first region starts at line 0, starts rise strictly, each is below the line count"
+abbrev pub Starts : Field → ℕ → Type 0
+Starts f i = (firstLine f i < f .lines) × (i ≡ 0 → firstLine f i ≡ 0) × ((i ≡ 0 → ⊥) → firstLine f (i - 1) < firstLine f i)
+
+-- 14: "the gate line is below the line count", and the second pattern
+abbrev pub Transfers : Tables → Field → Type 0
+Transfers t f = (f .gate < f .lines) × ((f .second ≡ 65535 → ⊥) → Seconds t f (secondOf t f) (f .gate))
+
+-- 15: "a gate that is on has toggle 1 below toggle 2 below the gate line's length"
+abbrev pub Pulses : Gate → ℕ → Type 0
+Pulses g length = g .present ≡ true → g .on ≡ 1 → (g .toggle1 < g .toggle2) × (g .toggle2 < length)
+
+-- 16: "toggle 1 below toggle 2, suppressed lines at least 1"
+abbrev pub Suppresses : Subck → Type 0
+Suppresses s = s .present ≡ true → (s .toggle1 < s .toggle2) × (1 ≤ s .suppressed)
+
+-- rule n holds at place i: a row a number, with the places that it has and what it says there; no other number and place says anything
+module _ (p : Profile) where
+  abbrev t : Tables
+  t = p .tables
+
+  abbrev f : Field
+  f = p .field
+
+  pub record Rule (n i : ℕ) : Type 0 where
+    pub values : n ≡ 5 → i ≡ 0 → Ranged p
+    pub field-given : n ≡ 6 → i ≡ 0 → f .present ≡ true
+    pub region-order : n ≡ 7 → i < regionCount f → Starts f i
+    pub sequence-given : n ≡ 8 → i < regionCount f → sequenceAt t f i .present ≡ true
+    pub pattern-length : n ≡ 9 → i < regionCount f → patternAt t f i .length ≡ 0 → ⊥
+    pub toggle-order : n ≡ 10 → i < regionCount f → (k : ℕ) → k < 6 → Rises (regionAt f i .mode) (patternAt t f i) k
+    pub mask : n ≡ 11 → i < regionCount f → Masks (regionAt f i .mode) (sequenceAt t f i .mask) (patternAt t f i)
+    pub repetitions : n ≡ 12 → i < regionCount f → Counts (regionAt f i .mode) (sequenceAt t f i) (patternAt t f i)
+    pub run-ends : n ≡ 13 → i < regionCount f → Ends (regionAt f i .mode) (sequenceAt t f i) (patternAt t f i) (regionSize t f i)
+    pub gate-line : n ≡ 14 → i ≡ 0 → Transfers t f
+    pub gate-pulse : n ≡ 15 → i < 5 → Pulses (getD (t .gates) i emptyGate) (lineLength t f (f .gate))
+    pub subck : n ≡ 16 → i ≡ 0 → Suppresses (t .subck)
+    pub shutter : n ≡ 17 → i < 2 → getD (t .shutters) i emptyShutter .present ≡ true → Shuts t f (getD (t .shutters) i emptyShutter)
+
+-- "then 6; then 7 for all regions; then, region by region, 8 to 13; then 14; 15 by gate; 16; 17 (MSHUT first)": by turn, then by place, then
+-- by number, where 8 to 13 have one turn
+abbrev pub turn : ℕ → ℕ
+turn n = cond (leb 8 n && leb n 13) 8 n
+
+-- rule m at place j comes before rule n at place i
+abbrev pub Earlier : ℕ → ℕ → ℕ → ℕ → Type 0
+Earlier m j n i = (turn m < turn n) ⊎ ((turn m ≡ turn n) × Before j m i n)
+
+-- rule n at place i is the first that does not hold
+pub record FirstBroken (p : Profile) (n i : ℕ) : Type 0 where
+  pub broken : Rule p n i → ⊥
+  pub before : (m j : ℕ) → Earlier m j n i → Rule p m j

@@ -26,8 +26,9 @@ returns c =
     let f = s .before .before in
     let a = f .before .before .before .read in
     let l = refused-length (a .result .verdict .number) (a .result .verdict .place) (search needs) (search needs) in
-    printed-whole 65600 (s .put-refused-line .ensures) (printed-refused _ (a .result) (a .ensures) (f .if1 .taken))
-    (f .before .before .before .before .before .before .pre) (omega arith)
+    let known = f .before .before .before .before .before in
+    printed-whole 65600 (λ i. omega (arith, known .shared-slice-known .given i)) (s .put-refused-line .ensures) (printed-refused _ (a .result) (a .ensures) (f .if1 .taken))
+    (known .before .pre) (omega arith)
 
 count-room-requires : tie.Need-count-room-requires
 count-room-requires c κs = search needs
@@ -68,10 +69,11 @@ returns-2 c =
     let e =
     printed-compiled _ (a .result) (m .compile .result) (m .before .before .before .before .count-room .result)
     (m .before .before .before .word-room .result) _ _ (a .ensures) (f .if1 .left) room (m .compile .ensures .0) (m .compile .ensures .1 .0)
-    (m .compile .ensures .1 .1)
+    (m .compile .ensures .1 .1 .0)
     in
     let h : length (m .compile .last .1 .0) ≡ 4096 = search needs in
-    printed-whole 65600 (s .put-told .ensures .0) e (f .before .before .before .before .before .before .pre)
+    let known = f .before .before .before .before .before in
+    printed-whole 65600 (λ i. omega (arith, known .shared-slice-known .given i)) (s .put-told .ensures .0) e (known .before .pre)
     (omega (arith, s .put-told .ensures .1, h))
 
 pub put-answer-spec : {M : Type 1} → statement M

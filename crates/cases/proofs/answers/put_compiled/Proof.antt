@@ -48,7 +48,7 @@ returns c =
     let b = o .before .before .before .before in
     let a = b .before .before .before .before .before .before .before in
     puts-as (puts-more (puts-more (puts-more (puts-more (puts-more (b .put-verdict .ensures) (o .put-after .ensures)) (d .put-after2 .ensures)) (e .put-byte .ensures)) (f .put-counts .ensures)) (g .put-words .ensures))
-    (compile-told _ _ _ _ _ _ (a .compile .ensures .0) (a .compile .ensures .1 .0) (a .compile .ensures .1 .1))
+    (compile-told _ _ _ _ _ _ (a .compile .ensures .0) (a .compile .ensures .1 .0) (a .compile .ensures .1 .1 .0))
 
 pub put-compiled-spec : {M : Type 1} → statement M
 put-compiled-spec =

@@ -1,8 +1,9 @@
 -- Refused by the check; refused where the first pass counts more steps than there is room for; else the second pass fills both lists.
 -- Assumes nothing.
-use mathlib.Core.Path.{sym, ap, _∙_}
+use mathlib.Core.Path.{_≡_, sym, ap, _∙_}
 use borrow.Author.Tests.{ne-eqb}
-use Rattle.profile.specs.Values.{accepts}
+use Rattle.profile.specs.Values.{accepted, accepts}
+use Rattle.profile.specs.Rules.{checkProfile}
 use Rattle.profile.specs.declared.Verdict.{Verdict}
 use Rattle.profile.proofs.Checked.{check-number}
 use Rattle.holdlist.proofs.Passes.{passes-refused, passes-short, passes-fit}
@@ -15,10 +16,15 @@ check-requires c κs = search needs
 
 returns : tie.Need-returns
 returns c =
-    let e = c .before .before .check .ensures in
-    let a = c .before .before .before .before .before .args in
-    let m = passes-refused (a .profile) (a .counts .now) (a .words .now) (ne-eqb _ _ (λ z. c .if1 .taken (ap (λ (v : Verdict). v .number) e ∙ z))) in
-    (rw e (m .0), (m .1, m .2))
+    let d = c .before .before in
+    let a = d .before .before .before .args in
+    rw (d .check .ensures)
+    (passes-refused (a .profile) (a .counts .now) (a .words .now)
+    (ne-eqb _ _ (λ z. c .if1 .taken (ap (λ (v : Verdict). v .number) (d .check .ensures) ∙ z))))
+
+-- past the check
+good : (c : tie.Else1) → checkProfile (c .before .before .before .before .before .args .profile) ≡ accepted
+good c = check-number _ (sym (ap (λ (v : Verdict). v .number) (c .before .before .check .ensures)) ∙ c .if1 .left)
 
 sub-fill-field : tie.Need-sub-fill-field
 sub-fill-field c = search needs
@@ -39,7 +45,7 @@ part-fill-field-end-2 : tie.Need-part-fill-field-end-2
 part-fill-field-end-2 c = search needs
 
 fill-field-requires : tie.Need-fill-field-requires
-fill-field-requires c κs = check-number _ (sym (ap (λ (v : Verdict). v .number) (c .before .before .before .before .before .before .check .ensures)) ∙ c .before .before .before .before .if1 .left)
+fill-field-requires c κs = good (c .before .before .before .before)
 
 least-requires : tie.Need-least-requires
 least-requires c κs = search needs
@@ -55,13 +61,16 @@ same-length-2 c = search needs
 
 returns-2 : tie.Need-returns-2
 returns-2 c =
-    let a = c .before .before .before .before .before .before .before .before .before .before .before .before .before .before .before .before .before .args in
-    let ok = ap accepts (check-number (a .profile) (sym (ap (λ (v : Verdict). v .number) (c .before .before .before .before .before .before .before .before .before .before .before .before .before .before .check .ensures)) ∙ c .before .before .before .before .before .before .before .before .before .before .before .before .if1 .left)) in
-    let m = passes-short (a .profile) (a .counts .now) (a .words .now) ok (c .before .before .before .before .before .before .before .fill-field .ensures) (c .before .before .least .ensures) (c .before .if2 .taken) in
-    (rw (c .refuse .ensures) (m .0), (m .1, m .2))
+    let k = c .before .before in
+    let f = k .before .before .before .before .before in
+    let g = f .before .before .before .before .before in
+    let a = g .before .before .before .before .before .args in
+    rw (c .refuse .ensures)
+    (passes-short (a .profile) (a .counts .now) (a .words .now) (ap accepts (good g)) (f .fill-field .ensures) (k .least .ensures)
+    (c .before .if2 .taken))
 
 fill-field-requires-2 : tie.Need-fill-field-requires-2
-fill-field-requires-2 c κs = check-number _ (sym (ap (λ (v : Verdict). v .number) (c .before .before .before .before .before .before .before .before .before .before .before .before .before .before .before .check .ensures)) ∙ c .before .before .before .before .before .before .before .before .before .before .before .before .before .if1 .left)
+fill-field-requires-2 c κs = good (c .before .before .before .before .before .before .before .before .before .before .before .before .before)
 
 accept-requires : tie.Need-accept-requires
 accept-requires c κs = search needs
@@ -77,10 +86,14 @@ same-length-4 c = search needs
 
 returns-3 : tie.Need-returns-3
 returns-3 c =
-    let a = c .before .before .before .before .before .before .before .before .before .before .before .before .before .before .before .before .before .before .before .before .before .before .before .before .before .args in
-    let ok = ap accepts (check-number (a .profile) (sym (ap (λ (v : Verdict). v .number) (c .before .before .before .before .before .before .before .before .before .before .before .before .before .before .before .before .before .before .before .before .before .before .check .ensures)) ∙ c .before .before .before .before .before .before .before .before .before .before .before .before .before .before .before .before .before .before .before .before .if1 .left)) in
-    let m = passes-fit (a .profile) (a .counts .now) (a .words .now) ok (c .before .before .before .before .before .before .before .before .before .before .before .before .before .before .before .fill-field .ensures) (c .before .before .before .before .before .before .before .before .before .before .least .ensures) (c .before .before .before .before .before .before .before .before .before .if2 .left) (c .before .before .before .before .before .before .fill-field2 .ensures) in
-    (rw (c .before .accept .ensures, c .pixel-count .ensures) (m .0), (m .1, m .2))
+    let h = c .before .before .before .before .before .before in
+    let k = h .before .before .before .before in
+    let f = k .before .before .before .before .before in
+    let g = f .before .before .before .before .before in
+    let a = g .before .before .before .before .before .args in
+    rw (c .before .accept .ensures, c .pixel-count .ensures)
+    (passes-fit (a .profile) (a .counts .now) (a .words .now) (ap accepts (good g)) (f .fill-field .ensures) (k .least .ensures)
+    (h .before .before .before .if2 .left) (h .fill-field2 .ensures))
 
 pub compile-spec : {M : Type 1} → statement M
 compile-spec =

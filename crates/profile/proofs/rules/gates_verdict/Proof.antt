@@ -47,7 +47,7 @@ returns c =
     let n = l .before .line-length .result in
     let e = told-no (c .before .before .gate-right .ensures) (c .before .if1 .taken) in
     c .refuse .ensures
-    ∙ chunks-stop (gatesOn (s .t1) n) (λ j. (lit≤ tt, tt)) _ (l .loop .inv .1) 5 (omega arith) (one-broken 15 _ (all-one _ ∙ e)) (omega arith)
+    ∙ chunks-stop (gatesOn (s .t1) n) (λ j. (lit≤ tt, tt)) _ (l .loop .inv .1) 5 (omega arith) (one-broken _ _ (all-one _ ∙ e)) (omega arith)
     ∙ ap (λ (m : ℕ). firstBroken (chunks 5 (gatesOn (s .t1) m))) (l .before .line-length .ensures)
 
 add-k : tie.Need-add-k Inv-loop μ-loop
@@ -62,7 +62,7 @@ loop-again c =
     let s = l .before .before .before .args in
     let n = l .before .line-length .result in
     let e = told-yes (c .before .gate-right .ensures) (c .if1 .left) in
-    (omega arith, chunks-on (gatesOn (s .t1) n) (λ j. (lit≤ tt, tt)) _ (l .loop .inv .1) (one-fine 15 _ (all-one _ ∙ e)))
+    (omega arith, chunks-on (gatesOn (s .t1) n) (λ j. (lit≤ tt, tt)) _ (l .loop .inv .1) (one-fine _ _ (all-one _ ∙ e)))
 
 accept-requires : tie.Need-accept-requires Inv-loop μ-loop
 accept-requires c κs = search needs

@@ -14,13 +14,13 @@ refuse-requires : tie.Need-refuse-requires
 refuse-requires c κs = search needs
 
 returns : tie.Need-returns
-returns c = c .refuse .ensures ∙ one-broken 16 0 (told-no (c .before .before .subck-right .ensures) (c .before .if1 .taken))
+returns c = c .refuse .ensures ∙ one-broken _ _ (told-no (c .before .before .subck-right .ensures) (c .before .if1 .taken))
 
 accept-requires : tie.Need-accept-requires
 accept-requires c κs = search needs
 
 returns-2 : tie.Need-returns-2
-returns-2 c = c .accept .ensures ∙ sym (one-fine 16 0 (told-yes (c .before .before .subck-right .ensures) (c .before .if1 .left)))
+returns-2 c = c .accept .ensures ∙ sym (one-fine _ _ (told-yes (c .before .before .subck-right .ensures) (c .before .if1 .left)))
 
 pub subck-verdict-spec : {M : Type 1} → statement M
 subck-verdict-spec =

@@ -1,0 +1,180 @@
+-- From the bytes that come in to the text that goes out: for every sequence of bytes, what is printed is exactly what specs/Prints.antt says. What a
+-- script reads to, the steps of the shortest list and the text that tells them are each one (read-exactly, runs-one, tells-one), so no other text is.
+-- Assumes nothing.
+use Prim.Native.Nat.{ℕ, suc, _≤_, _<_, _^_}
+use native.Mathlib.Omega.{arith}
+use mathlib.Core.Path.{_≡_, refl, sym, ap, subst, _∙_}
+use mathlib.Core.Logic.{_↔_}
+use mathlib.Core.List.{List}
+use mathlib.Core.Bool.{Bool, true, false, false≢true}
+use lib.ListN.{length, getD, take, length-map}
+use lib.Seq.{take-all, length-take-le}
+use lib.Dec.{leb, eqb}
+use borrow.Author.Tests.{le-leb, lt-leb, leb-true, leb-false, eqb-true, eqb-false, eq-eqb, ne-eqb}
+use Rattle.profile.specs.Bytes.{Bytes}
+use Rattle.profile.specs.Values.{emptyField, emptyProfile, accepted, refused, accepts}
+use Rattle.profile.specs.Geometry.{pixelCount}
+use Rattle.profile.specs.Rules.{checkProfile}
+use Rattle.profile.specs.Script.{readScript}
+use Rattle.profile.specs.Records.{unread, taken, Reads}
+use Rattle.profile.specs.declared.Profile.{Profile}
+use Rattle.profile.specs.declared.Verdict.{Verdict}
+use Rattle.profile.specs.declared.ReadAnswer.{ReadAnswer}
+use Rattle.profile.proofs.Laws.{by-cases}
+use Rattle.profile.proofs.Accepted.{accepted-field}
+use Rattle.profile.proofs.Reading.{read-refused, read-accepted, read-verdict}
+use Rattle.profile.proofs.Scripts.{read-exactly}
+use Rattle.level.proofs.Words.{field-words-length}
+use Rattle.holdlist.specs.Runs.{countOf, wordOf, countsOf, wordsOf}
+use Rattle.holdlist.specs.Compile.{holdVerdict, holdAnswer, profileWords, fieldRuns, compileAnswer}
+use Rattle.holdlist.specs.Demand.{Plays, PlaysField}
+use Rattle.holdlist.specs.Text.{refusedLine, listing, told, printedOf, printed}
+use Rattle.holdlist.specs.Readback.{Tells, TellsRefusal}
+use Rattle.holdlist.specs.Prints.{Shortest, Prints, refusal, no-room, steps-told}
+use Rattle.holdlist.proofs.Runs.{runs-word, runs-one}
+use Rattle.holdlist.proofs.Shortest.{expands, no-fewer, counts-many, words-many, encoded-whole}
+use Rattle.holdlist.proofs.Demanded.{plays-field, field-small}
+use Rattle.holdlist.proofs.Readback.{refusal-told, listing-told, tells-one, tells-refusal-one}
+
+-- ---- what is printed, by what the script reads to
+
+module _ (s : List ℕ) where
+  printed-unread : (n place : ℕ) → readScript s ≡ unread n place → 1 ≤ n → printed s ≡ refusedLine n place
+  unfolding printed
+  printed-unread n place e h = rw e (rw (ne-eqb n 0 (omega arith)))
+
+  module _ (p : Profile) (e : readScript s ≡ taken p) (ok : checkProfile p ≡ accepted) where
+    printed-no-room : 4096 < length (fieldRuns p) → printed s ≡ refusedLine 18 (length (fieldRuns p))
+    unfolding printed printedOf told compileAnswer holdAnswer holdVerdict
+    printed-no-room h = rw e (rw (ok, lt-leb (length (fieldRuns p)) 4096 h))
+
+    printed-list :
+        length (fieldRuns p) ≤ 4096 →
+        printed s ≡ listing (length (fieldRuns p)) (pixelCount (p .tables) (p .field)) (countsOf (fieldRuns p)) (wordsOf (fieldRuns p))
+    unfolding printed printedOf told compileAnswer holdAnswer holdVerdict
+    printed-list h = rw e (rw (ok, le-leb (length (fieldRuns p)) 4096 h, field-words-length (p .tables) (p .field)))
+
+-- ---- the field's runs are its shortest list, and no other is
+
+module _ (p : Profile) where
+  shortest : Shortest p (length (fieldRuns p)) (countsOf (fieldRuns p)) (wordsOf (fieldRuns p))
+  shortest =
+      let xs = profileWords p in
+      record {
+        counts-length = counts-many xs;
+        words-length = words-many xs;
+        plays = plays-field (p .tables) (p .field) _ _ _ .0 (encoded-whole xs);
+        least = λ cs ws used q. no-fewer xs cs ws used (plays-field (p .tables) (p .field) cs ws used .1 q);
+      }
+
+  module _ (steps : ℕ) (counts words : List ℕ) (w : Shortest p steps counts words) where
+    shortest-steps : steps ≡ length (fieldRuns p)
+    shortest-steps = omega (arith, w .least _ _ _ (shortest .plays), shortest .least _ _ _ (w .plays))
+
+    shortest-one : (counts ≡ countsOf (fieldRuns p)) × (words ≡ wordsOf (fieldRuns p))
+    shortest-one =
+        let x = expands (profileWords p) counts words steps (plays-field (p .tables) (p .field) counts words steps .1 (w .plays)) in
+        let a : take steps counts ≡ counts = take-all steps counts (omega (arith, w .counts-length)) in
+        let b : take steps words ≡ words = take-all steps words (omega (arith, w .words-length)) in
+        runs-one counts words (profileWords p) (rw (a, b) at x) (w .counts-length ∙ shortest-steps) (w .words-length ∙ sym (w .counts-length))
+
+  list-told :
+      Tells (listing (length (fieldRuns p)) (pixelCount (p .tables) (p .field)) (countsOf (fieldRuns p)) (wordsOf (fieldRuns p)))
+      (length (fieldRuns p)) (pixelCount (p .tables) (p .field)) (countsOf (fieldRuns p)) (wordsOf (fieldRuns p))
+  list-told =
+      listing-told (length (fieldRuns p)) (pixelCount (p .tables) (p .field)) (countsOf (fieldRuns p)) (wordsOf (fieldRuns p))
+      (length-map (fieldRuns p) countOf) (length-map (fieldRuns p) wordOf)
+      (λ i. omega (arith, runs-word (2 ^ 16) (profileWords p) (field-small (p .tables) (p .field)) i))
+
+-- ---- what a script reads to
+
+module _ (s : List ℕ) (b : Bytes s) where
+  -- a profile that is taken is accepted
+  taken-accepted : (p : Profile) → readScript s ≡ taken p → checkProfile p ≡ accepted
+  taken-accepted p e =
+      subst (λ (r : ReadAnswer). checkProfile (r .profile) ≡ accepted) e (read-accepted s b (ap (λ (r : ReadAnswer). r .verdict .number) e))
+
+  -- no refusal has the number 0: the empty profile has no field
+  unread-number : (n place : ℕ) → readScript s ≡ unread n place → 1 ≤ n
+  unfolding emptyField
+  unread-number n place e =
+      by-cases (eqb n 0)
+      (λ q.
+      let z : readScript s .verdict .number ≡ 0 = ap (λ (r : ReadAnswer). r .verdict .number) e ∙ eqb-true n 0 q in
+      let a : checkProfile emptyProfile ≡ accepted = subst (λ (r : ReadAnswer). checkProfile (r .profile) ≡ accepted) e (read-accepted s b z) in
+      absurd (false≢true (accepted-field emptyProfile a)))
+      (λ q. omega (arith, eqb-false n 0 q))
+
+  reads : {a : ReadAnswer} → readScript s ≡ a → Reads s a
+  reads {a} e = read-exactly s b a .0 e
+
+  -- ---- what is printed is so
+
+  prints-taken : (p : Profile) → readScript s ≡ taken p → Prints s (printed s)
+  prints-taken p e =
+      let ok = taken-accepted p e in
+      let k = length (fieldRuns p) in
+      let counts = countsOf (fieldRuns p) in
+      let words = wordsOf (fieldRuns p) in
+      by-cases (leb k 4096)
+      (λ q.
+      let h = leb-true k 4096 q in
+      steps-told p k counts words (reads e) (shortest p) h
+      (subst (λ (t : List ℕ). Tells t k (pixelCount (p .tables) (p .field)) counts words) (sym (printed-list s p e ok h)) (list-told p)))
+      (λ q.
+      let h = leb-false k 4096 q in
+      no-room p k counts words (reads e) (shortest p) h
+      (subst (λ (t : List ℕ). TellsRefusal t 18 k) (sym (printed-no-room s p e ok h)) (refusal-told 18 k)))
+
+  prints-unread : (n place : ℕ) → readScript s ≡ unread n place → Prints s (printed s)
+  prints-unread n place e =
+      refusal n place (reads e)
+      (subst (λ (t : List ℕ). TellsRefusal t n place) (sym (printed-unread s n place e (unread-number n place e))) (refusal-told n place))
+
+  printed-so : Prints s (printed s)
+  printed-so =
+      let v = readScript s .verdict in
+      by-cases (eqb (v .number) 0)
+      (λ q. prints-taken (readScript s .profile) (ap (λ (w : Verdict). record { verdict = w; profile = readScript s .profile }) (read-verdict s (eqb-true (v .number) 0 q))))
+      (λ q.
+      prints-unread (v .number) (v .place)
+      (ap (λ (p : Profile). record { verdict = v; profile = p }) (read-refused s (eqb-false (v .number) 0 q))))
+
+  -- ---- and no other text is
+
+  printed-one : (text : List ℕ) → Prints s text → printed s ≡ text
+  printed-one text (refusal n place r t) =
+      let e = read-exactly s b (unread n place) .1 r in
+      printed-unread s n place e (unread-number n place e) ∙ tells-refusal-one _ text n place (refusal-told n place) t
+  printed-one text (no-room p steps counts words r w h t) =
+      let e = read-exactly s b (taken p) .1 r in
+      let k = shortest-steps p steps counts words w in
+      printed-no-room s p e (taken-accepted p e) (omega (arith, h, k))
+      ∙ tells-refusal-one _ text 18 (length (fieldRuns p)) (refusal-told 18 (length (fieldRuns p))) (subst (λ (n : ℕ). TellsRefusal text 18 n) k t)
+  printed-one text (steps-told p steps counts words r w h t) =
+      let e = read-exactly s b (taken p) .1 r in
+      let k = shortest-steps p steps counts words w in
+      let o = shortest-one p steps counts words w in
+      printed-list s p e (taken-accepted p e) (omega (arith, h, k))
+      ∙ tells-one _ text (length (fieldRuns p)) (pixelCount (p .tables) (p .field)) (countsOf (fieldRuns p)) (wordsOf (fieldRuns p)) (list-told p)
+      (rw (k, o .0, o .1) at t)
+
+  -- for every sequence of bytes: exactly the refusal of the first broken rule, or S, P and the S steps of the shortest list that plays the field
+  pub printed-exactly : (text : List ℕ) → (printed s ≡ text) ↔ Prints s text
+  printed-exactly text = ((λ e. subst (Prints s) e printed-so), printed-one text)
+
+-- ---- what is past the first 16,385 bytes makes no difference: the program may stop reading there
+
+too-long : (s : List ℕ) → 16384 < length s → readScript s ≡ unread 1 0
+unfolding readScript
+too-long s h = rw (lt-leb (length s) 16384 h)
+
+pub printed-enough : (s : List ℕ) → printed (take 16385 s) ≡ printed s
+printed-enough s =
+    by-cases (leb (length s) 16385)
+    (λ q. ap printed (take-all 16385 s (leb-true (length s) 16385 q)))
+    (λ q.
+    let h = leb-false (length s) 16385 q in
+    let l : length (take 16385 s) ≡ 16385 = length-take-le 16385 s (omega arith) in
+    printed-unread (take 16385 s) 1 0 (too-long (take 16385 s) (omega arith)) (omega arith)
+    ∙ sym (printed-unread s 1 0 (too-long s (omega arith)) (omega arith)))

@@ -1,0 +1,459 @@
+-- Reading answers exactly what document 01 says of a script as whole records and a first fault (specs/Records.antt).
+-- Assumes nothing.
+use Prim.Native.Nat.{ℕ, zero, suc, _+_, _-_, _*_, _/_, _%_, _≤_, _<_}
+use native.Mathlib.Nat.{add-zero}
+use native.Mathlib.Omega.{arith}
+use mathlib.Core.Path.{_≡_, refl, sym, ap, subst, _∙_}
+use mathlib.Core.Logic.{_↔_, _⊎_, inl, inr}
+use mathlib.Core.Bool.{Bool, true, false, cond, not, _&&_, _||_, false≢true}
+use mathlib.Core.List.{List, [], _∷_, _++_, append-assoc, append-nil}
+use lib.ListN.{length, getD, take, drop, length-append, take-append-drop, length-drop}
+use lib.Seq.{length-take-le, take-append-seam}
+use lib.Dec.{ltb, leb, eqb}
+use borrow.Author.Tests.{ltb-true, ltb-false, leb-true, leb-false, eqb-true, eqb-false, lt-ltb, le-ltb, le-leb, lt-leb, eq-eqb, ne-eqb}
+use Rattle.profile.specs.Lists.{all, chunks}
+use Rattle.profile.specs.Bytes.{Bytes, numberAt, dataAt, twoBytes}
+use Rattle.profile.specs.Values.{emptyProfile, accepted, refused, accepts, readAnswer}
+use Rattle.profile.specs.Ranges.{sequenceRange, fieldRange, regionRange, gateRange, subckRange, shutterRange, inRange}
+use Rattle.profile.specs.Rules.{judge, checkProfile}
+use Rattle.profile.specs.Obeys.{SequenceRanged, FieldRanged, GateRanged, SubckRanged, ShutterRanged}
+use Rattle.profile.specs.Script.{
+  registerFits,
+  sequenceFits,
+  fieldFits,
+  gateFits,
+  subckFits,
+  shutterFits,
+  sequenceFrom,
+  fieldFrom,
+  regionFits,
+  gateFrom,
+  subckFrom,
+  shutterFrom,
+  known,
+  fieldLength,
+  allowed,
+  fits,
+  put,
+  bodyOf,
+  Step,
+  stop,
+  next,
+  step,
+  records,
+  judged,
+  readScript,
+}
+use Rattle.profile.specs.Records.{
+  Known,
+  Allowed,
+  register-4,
+  sequence-14,
+  field-6n,
+  gate-10,
+  subck-10,
+  shutter-12,
+  RegionFits,
+  Fits,
+  register-fits,
+  sequence-fits,
+  field-fits,
+  gate-fits,
+  subck-fits,
+  shutter-fits,
+  Record,
+  bytesOf,
+  scriptOf,
+  putAll,
+  profileOf,
+  Fault,
+  header-cut,
+  kind-unknown,
+  length-wrong,
+  body-cut,
+  values-out,
+  Reads,
+  unread,
+  taken,
+  too-long,
+  stopped,
+  broken,
+  obeyed,
+}
+use Rattle.profile.specs.declared.Profile.{Profile}
+use Rattle.profile.specs.declared.Verdict.{Verdict}
+use Rattle.profile.specs.declared.ReadAnswer.{ReadAnswer}
+use Rattle.profile.proofs.Laws.{by-cases, and-left, and-right, and-intro, passed, all-passed, all-chunks, chunks-all}
+use Rattle.profile.proofs.Reflects.{Says, says-lt, says-le, says-eq, says-and, says-where}
+use Rattle.profile.proofs.Checked.{check-judge}
+use Rattle.profile.proofs.Accepted.{Judged, check-judged, accepted-exactly, refused-exactly, broken-number}
+use Rattle.profile.proofs.Carried.{sequence-says, gate-says, subck-says, shutter-says, field-says}
+use Rattle.profile.proofs.Takes.{Takes, takes-record, takes-none, takes-then, takes-all, records-stop, records-done}
+use Rattle.profile.proofs.Bodies.{join-two, step-takes}
+use Rattle.profile.proofs.ByteRange.{bytes-tail}
+use Rattle.profile.proofs.Reading.{records-in, empty-in}
+
+-- ---- kinds and lengths
+
+says-known : (k : ℕ) → Says (known k) (Known k)
+says-known k = says-and (says-le 1 k) (says-le k 6)
+
+known-allowed : (k l : ℕ) → Allowed k l → Known k
+known-allowed k l register-4 = (omega arith, omega arith)
+known-allowed k l sequence-14 = (omega arith, omega arith)
+known-allowed k l (field-6n n a b) = (omega arith, omega arith)
+known-allowed k l gate-10 = (omega arith, omega arith)
+known-allowed k l subck-10 = (omega arith, omega arith)
+known-allowed k l shutter-12 = (omega arith, omega arith)
+
+allowed-test : (k l : ℕ) → Allowed k l → allowed k l ≡ true
+unfolding allowed
+allowed-test k l register-4 = refl
+allowed-test k l sequence-14 = refl
+allowed-test k l (field-6n n a b) =
+    let m : (10 + 6 * n - 10) % 6 ≡ 0 = omega arith in
+    and-intro (and-intro (le-leb 16 (10 + 6 * n) (omega arith)) (le-leb (10 + 6 * n) 52 (omega arith))) (eq-eqb ((10 + 6 * n - 10) % 6) 0 m)
+allowed-test k l gate-10 = refl
+allowed-test k l subck-10 = refl
+allowed-test k l shutter-12 = refl
+
+exact : (k m l : ℕ) → Allowed k m → eqb l m ≡ true → Allowed k l
+exact k m l a e = rw (eqb-true l m e) a
+
+test-allowed : (k l : ℕ) → Known k → allowed k l ≡ true → Allowed k l
+unfolding allowed
+test-allowed zero l h e = absurd (omega arith)
+test-allowed (suc zero) l h e = exact 1 4 l register-4 e
+test-allowed (suc (suc zero)) l h e = exact 2 14 l sequence-14 e
+test-allowed (suc (suc (suc zero))) l h e =
+    let w = says-and (says-and (says-le 16 l) (says-le l 52)) (says-eq ((l - 10) % 6) 0) .0 e in
+    let q : 10 + 6 * ((l - 10) / 6) ≡ l = omega (arith, w .0 .0, w .1) in
+    subst (λ (x : ℕ). Allowed 3 x) q (field-6n ((l - 10) / 6) (omega (arith, w .0 .0)) (omega (arith, w .0 .1)))
+test-allowed (suc (suc (suc (suc zero)))) l h e = exact 4 10 l gate-10 e
+test-allowed (suc (suc (suc (suc (suc zero))))) l h e = exact 5 10 l subck-10 e
+test-allowed (suc (suc (suc (suc (suc (suc zero)))))) l h e = exact 6 12 l shutter-12 e
+test-allowed (suc (suc (suc (suc (suc (suc (suc k))))))) l h e = absurd (omega (arith, h .1))
+
+says-allowed : (k l : ℕ) → Known k → Says (allowed k l) (Allowed k l)
+says-allowed k l h = (test-allowed k l h, allowed-test k l)
+
+allowed-small : (k l : ℕ) → Allowed k l → l ≤ 52
+allowed-small k l register-4 = omega arith
+allowed-small k l sequence-14 = omega arith
+allowed-small k l (field-6n n a b) = omega arith
+allowed-small k l gate-10 = omega arith
+allowed-small k l subck-10 = omega arith
+allowed-small k l shutter-12 = omega arith
+
+-- ---- values
+
+module _ (b : List ℕ) where
+  says-region : (i : ℕ) → Says (all (regionFits b i)) (RegionFits b i)
+  says-region i = (
+    (λ e. let w = passed (regionFits b i) e in omega (arith, leb-true)),
+    λ w. all-passed (regionFits b i) (omega (arith, le-leb)),
+  )
+
+  says-numbered : (n top : ℕ) (tests : List Bool) (A : Type 0) → Says (all tests) A → Says (all (leb n top ∷ tests)) ((n ≤ top) × A)
+  unfolding all
+  says-numbered n top tests A s = (
+    (λ e. let w = passed (leb n top ∷ tests) e in (leb-true n top (w .0), s .0 (all-passed tests (w .1)))),
+    λ w. all-passed (leb n top ∷ tests) (le-leb n top (w .0), passed tests (s .1 (w .1))),
+  )
+
+  pub fits-test : (k : ℕ) → Fits b k → fits k b ≡ true
+  unfolding fits registerFits sequenceFits fieldFits gateFits subckFits shutterFits
+  fits-test k (register-fits h w) =
+      all-passed _ (le-leb _ _ h, (says-where (says-eq (getD b 0 0 % 12) 0) (says-eq (dataAt b 1 / 64 % 64) 0) .1 w, tt))
+  fits-test k (sequence-fits h w) = says-numbered (numberAt b 0) 9 (sequenceRange (sequenceFrom b)) _ (sequence-says (sequenceFrom b)) .1 (h, w)
+  fits-test k (field-fits h w r) =
+      and-intro
+      (all-passed (eqb (10 + 6 * numberAt b 8) (length b) ∷ fieldRange (fieldFrom b))
+      (eq-eqb (10 + 6 * numberAt b 8) (length b) h, passed (fieldRange (fieldFrom b)) (field-says (fieldFrom b) .1 w)))
+      (chunks-all (numberAt b 8) (regionFits b) (λ i l. says-region i .1 (r i l)))
+  fits-test k (gate-fits h w) = says-numbered (numberAt b 0) 4 (gateRange (gateFrom b)) _ (gate-says (gateFrom b)) .1 (h, w)
+  fits-test k (subck-fits w) = subck-says (subckFrom b) .1 w
+  fits-test k (shutter-fits h w) = says-numbered (numberAt b 0) 1 (shutterRange (shutterFrom b)) _ (shutter-says (shutterFrom b)) .1 (h, w)
+
+  test-fits : (k : ℕ) → Known k → fits k b ≡ true → Fits b k
+  unfolding fits registerFits sequenceFits fieldFits gateFits subckFits shutterFits
+  test-fits zero h e = absurd (omega arith)
+  test-fits (suc zero) h e =
+      let w = passed (leb (getD b 0 0) 0x77 ∷ (not (eqb (getD b 0 0 % 12) 0) || eqb (dataAt b 1 / 64 % 64) 0) ∷ []) e in
+      register-fits (leb-true _ _ (w .0)) (says-where (says-eq (getD b 0 0 % 12) 0) (says-eq (dataAt b 1 / 64 % 64) 0) .0 (w .1 .0))
+  test-fits (suc (suc zero)) h e =
+      let w = says-numbered (numberAt b 0) 9 (sequenceRange (sequenceFrom b)) _ (sequence-says (sequenceFrom b)) .0 e in
+      sequence-fits (w .0) (w .1)
+  test-fits (suc (suc (suc zero))) h e =
+      let tests = eqb (10 + 6 * numberAt b 8) (length b) ∷ fieldRange (fieldFrom b) in
+      let w = passed tests (and-left (all tests) _ e) in
+      let r = and-right (all tests) _ e in
+      field-fits (eqb-true _ _ (w .0)) (field-says (fieldFrom b) .0 (all-passed (fieldRange (fieldFrom b)) (w .1)))
+      (λ i l. says-region i .0 (all-chunks (numberAt b 8) (regionFits b) r i l))
+  test-fits (suc (suc (suc (suc zero)))) h e =
+      let w = says-numbered (numberAt b 0) 4 (gateRange (gateFrom b)) _ (gate-says (gateFrom b)) .0 e in
+      gate-fits (w .0) (w .1)
+  test-fits (suc (suc (suc (suc (suc zero))))) h e = subck-fits (subck-says (subckFrom b) .0 e)
+  test-fits (suc (suc (suc (suc (suc (suc zero)))))) h e =
+      let w = says-numbered (numberAt b 0) 1 (shutterRange (shutterFrom b)) _ (shutter-says (shutterFrom b)) .0 e in
+      shutter-fits (w .0) (w .1)
+  test-fits (suc (suc (suc (suc (suc (suc (suc k))))))) h e = absurd (omega (arith, h .1))
+
+-- ---- one record
+
+-- a record that can be read is taken, whatever follows it
+takes-one : (r : Record) (p : Profile) → Takes (bytesOf r) p (put (r .kind) (r .body) p)
+takes-one r p = takes-record (bytesOf r) (length (r .body)) p (put (r .kind) (r .body) p) (omega arith) front
+  where
+    front : (rest : List ℕ) → step (bytesOf r ++ rest) p ≡ next (length (r .body)) (put (r .kind) (r .body) p)
+    front rest =
+        let s = bytesOf r ++ rest in
+        let size : numberAt s 0 ≡ length (r .body) = join-two (length (r .body)) in
+        let kind : numberAt s 2 ≡ r .kind = join-two (r .kind) in
+        let body : bodyOf s ≡ r .body = ap (λ (n : ℕ). take n (r .body ++ rest)) size ∙ take-append-seam (r .body) rest in
+        let h = known-allowed (r .kind) (length (r .body)) (r .allowed) in
+        let taken =
+        step-takes s p (subst (λ (k : ℕ). known k ≡ true) (sym kind) (says-known (r .kind) .1 h))
+        (subst (λ (k : ℕ). allowed k (numberAt s 0) ≡ true) (sym kind) (subst (λ (l : ℕ). allowed (r .kind) l ≡ true) (sym size) (allowed-test (r .kind) (length (r .body)) (r .allowed))))
+        (omega (arith, size, length-append (r .body) rest))
+        (subst (λ (k : ℕ). fits k (bodyOf s) ≡ true) (sym kind) (subst (λ (b : List ℕ). fits (r .kind) b ≡ true) (sym body) (fits-test (r .body) (r .kind) (r .fits)))) in
+        taken
+        ∙ ap (λ (n : ℕ). next n (put (numberAt s 2) (bodyOf s) p)) size
+        ∙ ap (λ (k : ℕ). next (length (r .body)) (put k (bodyOf s) p)) kind
+        ∙ ap (λ (b : List ℕ). next (length (r .body)) (put (r .kind) b p)) body
+
+takes-many : (rs : List Record) (p : Profile) → Takes (scriptOf rs) p (putAll rs p)
+takes-many [] p = takes-none p p refl
+takes-many (r ∷ rs) p =
+    takes-then (bytesOf r) (scriptOf rs) p (put (r .kind) (r .body) p) (putAll rs (put (r .kind) (r .body) p)) (takes-one r p)
+    (takes-many rs (put (r .kind) (r .body) p))
+
+-- a fault stops the reading with its number
+not-said : {b : Bool} {A : Type 0} → Says b A → (A → ⊥) → b ≡ false
+not-said {b} s n = by-cases b (λ e. absurd (n (s .0 e))) (λ e. e)
+
+fault-stops : (s : List ℕ) (n : ℕ) (p : Profile) → Fault s n → step s p ≡ stop n
+unfolding step
+fault-stops s n p (header-cut a b) = rw (lt-ltb (length s) 4 b)
+fault-stops s n p (kind-unknown a k) = rw (le-ltb (length s) 4 a, not-said (says-known (numberAt s 2)) k)
+fault-stops s n p (length-wrong a k l) =
+    rw (le-ltb (length s) 4 a, says-known (numberAt s 2) .1 k, not-said (says-allowed (numberAt s 2) (numberAt s 0) k) l)
+fault-stops s n p (body-cut a l c) =
+    rw (
+      le-ltb (length s) 4 a,
+      says-known (numberAt s 2) .1 (known-allowed (numberAt s 2) (numberAt s 0) l),
+      allowed-test (numberAt s 2) (numberAt s 0) l,
+      lt-ltb (length s) (4 + numberAt s 0) c,
+    )
+fault-stops s n p (values-out l c v) =
+    let k = known-allowed (numberAt s 2) (numberAt s 0) l in
+    let a : 4 ≤ length s = omega (arith, c) in
+    rw (
+      le-ltb (length s) 4 a,
+      says-known (numberAt s 2) .1 k,
+      allowed-test (numberAt s 2) (numberAt s 0) l,
+      le-ltb (length s) (4 + numberAt s 0) c,
+      not-said (test-fits (bodyOf s) (numberAt s 2) k, fits-test (bodyOf s) (numberAt s 2)) v,
+    )
+
+fault-some : (s : List ℕ) (n : ℕ) → Fault s n → (1 ≤ length s) × (1 ≤ n)
+fault-some s n (header-cut a b) = (a, omega arith)
+fault-some s n (kind-unknown a k) = (omega (arith, a), omega arith)
+fault-some s n (length-wrong a k l) = (omega (arith, a), omega arith)
+fault-some s n (body-cut a l c) = (omega (arith, a), omega arith)
+fault-some s n (values-out l c v) = (omega (arith, c), omega arith)
+
+-- ---- a record or a fault starts any bytes
+
+pub record Starting (s : List ℕ) : Type 0 where
+  pub record-at : Record
+  pub rest : List ℕ
+  pub there : s ≡ bytesOf record-at ++ rest
+
+-- two bytes again, from their number
+split-two : (a b : ℕ) → a < 256 → ((a + 256 * b) % 256 ≡ a) × ((a + 256 * b) / 256 ≡ b)
+split-two a b h = (omega arith, omega arith)
+
+four : (s : List ℕ) → Bytes s → 4 ≤ length s → s ≡ twoBytes (numberAt s 0 ∷ numberAt s 2 ∷ []) ++ drop 4 s
+four [] w h = absurd (omega arith)
+four (a ∷ []) w h = absurd (omega arith)
+four (a ∷ b ∷ []) w h = absurd (omega arith)
+four (a ∷ b ∷ c ∷ []) w h = absurd (omega arith)
+four (a ∷ b ∷ c ∷ d ∷ s) w h =
+    let x = split-two a b (w .at 0) in
+    let y = split-two c d (w .at 2) in
+    rw (x .0, x .1, y .0, y .1)
+
+started : (s : List ℕ) → Bytes s → Allowed (numberAt s 2) (numberAt s 0) → 4 + numberAt s 0 ≤ length s → Fits (bodyOf s) (numberAt s 2)
+    → Starting s
+started s w l c v =
+    let size : length (bodyOf s) ≡ numberAt s 0 = length-take-le (numberAt s 0) (drop 4 s) (omega (arith, c, length-drop 4 s)) in
+    record {
+      record-at =
+          record {
+            kind = numberAt s 2;
+            body = bodyOf s;
+            allowed = subst (λ (n : ℕ). Allowed (numberAt s 2) n) (sym size) l;
+            fits = v;
+          };
+      rest = drop (numberAt s 0) (drop 4 s);
+      there =
+          four s w (omega (arith, c))
+          ∙ ap (λ (r : List ℕ). twoBytes (numberAt s 0 ∷ numberAt s 2 ∷ []) ++ r) (sym (take-append-drop (numberAt s 0) (drop 4 s)))
+          ∙ ap (λ (n : ℕ). twoBytes (n ∷ numberAt s 2 ∷ []) ++ (bodyOf s ++ drop (numberAt s 0) (drop 4 s))) (sym size);
+    }
+
+abbrev Faulty : List ℕ → Type 0
+Faulty s = (n : ℕ) × Fault s n
+
+front-of : (s : List ℕ) → Bytes s → 1 ≤ length s → Starting s ⊎ Faulty s
+front-of s w h =
+    by-cases (ltb (length s) 4)
+    (λ a. inr (2, header-cut h (ltb-true (length s) 4 a)))
+    (λ a.
+    let a4 = ltb-false (length s) 4 a in
+    by-cases (known (numberAt s 2))
+    (λ b.
+    let k = says-known (numberAt s 2) .0 b in
+    by-cases (allowed (numberAt s 2) (numberAt s 0))
+    (λ c.
+    let l = test-allowed (numberAt s 2) (numberAt s 0) k c in
+    by-cases (ltb (length s) (4 + numberAt s 0))
+    (λ d. inr (2, body-cut a4 l (ltb-true (length s) (4 + numberAt s 0) d)))
+    (λ d.
+    let c4 = ltb-false (length s) (4 + numberAt s 0) d in
+    by-cases (fits (numberAt s 2) (bodyOf s))
+    (λ e. inl (started s w l c4 (test-fits (bodyOf s) (numberAt s 2) k e)))
+    (λ e. inr (5, values-out l c4 (λ v. false≢true (sym e ∙ fits-test (bodyOf s) (numberAt s 2) v))))))
+    (λ c. inr (4, length-wrong a4 k (λ l. false≢true (sym c ∙ allowed-test (numberAt s 2) (numberAt s 0) l)))))
+    (λ b. inr (3, kind-unknown a4 (λ k. false≢true (sym b ∙ says-known (numberAt s 2) .1 k)))))
+
+-- ---- all records of a script
+
+pub record Ended (s : List ℕ) : Type 0 where
+  pub all-of : List Record
+  pub rest : List ℕ
+  pub there : s ≡ scriptOf all-of ++ rest
+  pub ends : (rest ≡ []) ⊎ Faulty rest
+
+bytes-rest : (a b : List ℕ) → Bytes (a ++ b) → Bytes b
+bytes-rest [] b w = w
+bytes-rest (x ∷ a) b w = bytes-rest a b (bytes-tail w)
+
+none-left : Ended []
+none-left = record { all-of = []; rest = []; there = refl; ends = inl refl }
+
+-- a record, then what follows it
+ended-more : (s : List ℕ) (r : Starting s) → Ended (r .rest) → Ended s
+ended-more s r e =
+    record {
+      all-of = r .record-at ∷ e .all-of;
+      rest = e .rest;
+      there =
+          r .there
+          ∙ ap (λ (l : List ℕ). bytesOf (r .record-at) ++ l) (e .there)
+          ∙ sym (append-assoc (bytesOf (r .record-at)) (scriptOf (e .all-of)) (e .rest));
+      ends = e .ends;
+    }
+
+-- what is left is shorter
+rest-shorter : (s : List ℕ) (r : Starting s) → length (r .rest) < length s
+rest-shorter s r =
+    let l : length s ≡ length (bytesOf (r .record-at)) + length (r .rest) = ap length (r .there) ∙ length-append (bytesOf (r .record-at)) (r .rest) in
+    omega arith
+
+ended-by : (turns : ℕ) (s : List ℕ) → ((r : List ℕ) → length r ≤ turns → Bytes r → Ended r) → length s ≤ suc turns → Bytes s
+    → Starting s ⊎ Faulty s → Ended s
+ended-by turns s on h w (inr f) = record { all-of = []; rest = s; there = refl; ends = inr f }
+ended-by turns s on h w (inl r) =
+    ended-more s r
+    (on (r .rest) (omega (arith, h, rest-shorter s r)) (bytes-rest (bytesOf (r .record-at)) (r .rest) (subst Bytes (r .there) w)))
+
+ended-next : (turns : ℕ) (s : List ℕ) → ((r : List ℕ) → length r ≤ turns → Bytes r → Ended r) → length s ≤ suc turns → Bytes s → Ended s
+ended-next turns [] on h w = none-left
+ended-next turns (x ∷ s) on h w = ended-by turns (x ∷ s) on h w (front-of (x ∷ s) w (omega arith))
+
+ended-none : (s : List ℕ) → length s ≤ 0 → Ended s
+ended-none [] h = none-left
+ended-none (x ∷ s) h = absurd (omega arith)
+
+-- in so many turns at most: each record takes bytes
+ended : (turns : ℕ) (s : List ℕ) → length s ≤ turns → Bytes s → Ended s
+ended zero s h w = ended-none s h
+ended (suc turns) s h w = ended-next turns s (λ r l b. ended turns r l b) h w
+
+-- ---- the whole read
+
+-- the records, then what is left of the script
+records-rest : (rs : List Record) (rest : List ℕ) → records 0 0 (scriptOf rs ++ rest) emptyProfile ≡ records 0 (length (scriptOf rs)) rest (profileOf rs)
+records-rest rs rest = takes-many rs emptyProfile 0 rest ∙ ap (λ (n : ℕ). records 0 n rest (profileOf rs)) (omega arith)
+
+records-fault : (rest : List ℕ) (at n : ℕ) (p : Profile) → Fault rest n → records 0 at rest p ≡ readAnswer (refused n at) p
+records-fault [] at n p f = absurd (omega (arith, fault-some [] n f .0))
+records-fault (x ∷ xs) at n p f = records-stop x xs at n p (fault-stops (x ∷ xs) n p f)
+
+refused-empty : (n at : ℕ) (p : Profile) → 1 ≤ n → readAnswer (refused n at) p ≡ unread n at
+refused-empty n at p h = rw (ne-eqb n 0 (omega arith))
+
+judged-refused : (n at : ℕ) → 1 ≤ n → judged (unread n at) ≡ unread n at
+judged-refused n at h = rw (ne-eqb n 0 (omega arith))
+
+-- a script that is not too long
+short-read : (s : List ℕ) → length s ≤ 16384 → readScript s ≡ judged (records 0 0 s emptyProfile)
+unfolding readScript
+short-read s h = rw (le-leb (length s) 16384 h)
+
+-- whole records are judged by the check of what they give
+whole-read : (s : List ℕ) → Bytes s → (rs : List Record) → length s ≤ 16384 → s ≡ scriptOf rs
+    → readScript s ≡ readAnswer (checkProfile (profileOf rs)) (profileOf rs)
+whole-read s b rs h e =
+    let q = profileOf rs in
+    let r : records 0 0 s emptyProfile ≡ readAnswer accepted q = ap (λ (l : List ℕ). records 0 0 l emptyProfile) e ∙ takes-all (scriptOf rs) emptyProfile q (takes-many rs emptyProfile) in
+    let i : inRange q ≡ true = subst (λ (x : ReadAnswer). inRange (x .profile) ≡ true) r (records-in s 0 0 emptyProfile b empty-in) in
+    short-read s h ∙ ap judged r ∙ ap (λ (v : Verdict). readAnswer v q) (sym (check-judge q i))
+
+-- there is no other answer
+reads-one : (s : List ℕ) → Bytes s → (a : ReadAnswer) → Reads s a → readScript s ≡ a
+unfolding readScript
+reads-one s b a (too-long h) = rw (lt-leb (length s) 16384 h)
+reads-one s b a (stopped rs rest n h e f) =
+    let at = length (scriptOf rs) in
+    let some = fault-some rest n f .1 in
+    short-read s h
+    ∙ ap (λ (l : List ℕ). judged (records 0 0 l emptyProfile)) e
+    ∙ ap judged (records-rest rs rest ∙ records-fault rest at n (profileOf rs) f ∙ refused-empty n at (profileOf rs) some)
+    ∙ judged-refused n at some
+reads-one s b a (broken rs n i h e f) =
+    let some = broken-number (profileOf rs) n i f in
+    whole-read s b rs h e
+    ∙ ap (λ (v : Verdict). readAnswer v (profileOf rs)) (refused-exactly (profileOf rs) n i some .1 f)
+    ∙ refused-empty n i (profileOf rs) some
+reads-one s b a (obeyed rs h e f) =
+    whole-read s b rs h e ∙ ap (λ (v : Verdict). readAnswer v (profileOf rs)) (accepted-exactly (profileOf rs) .1 f)
+
+-- there is an answer
+reads-whole : (s : List ℕ) (rs : List Record) → length s ≤ 16384 → s ≡ scriptOf rs → Judged (profileOf rs) (checkProfile (profileOf rs))
+    → (a : ReadAnswer) × Reads s a
+reads-whole s rs h e (inl w) = (taken (profileOf rs), obeyed rs h e (w .0))
+reads-whole s rs h e (inr w) =
+    let v = checkProfile (profileOf rs) in
+    (unread (v .number) (v .place), broken rs (v .number) (v .place) h e w)
+
+reads-end : (s : List ℕ) → length s ≤ 16384 → (w : Ended s) → (w .rest ≡ []) ⊎ Faulty (w .rest) → (a : ReadAnswer) × Reads s a
+reads-end s h w (inl z) =
+    reads-whole s (w .all-of) h (w .there ∙ ap (λ (l : List ℕ). scriptOf (w .all-of) ++ l) z ∙ append-nil (scriptOf (w .all-of)))
+    (check-judged (profileOf (w .all-of)))
+reads-end s h w (inr f) = (unread (f .0) (length (scriptOf (w .all-of))), stopped (w .all-of) (w .rest) (f .0) h (w .there) (f .1))
+
+reads-some : (s : List ℕ) → Bytes s → (a : ReadAnswer) × Reads s a
+reads-some s b =
+    by-cases (leb (length s) 16384)
+    (λ h. let w = ended (length s) s (omega arith) b in reads-end s (leb-true (length s) 16384 h) w (w .ends))
+    (λ h. (unread 1 0, too-long (leb-false (length s) 16384 h)))
+
+-- reading answers exactly what the script says: too long; the first fault after whole records; the first broken rule of what the records give; or
+-- that, where none is broken
+pub read-exactly : (s : List ℕ) → Bytes s → (a : ReadAnswer) → (readScript s ≡ a) ↔ Reads s a
+read-exactly s b a =
+    let w = reads-some s b in
+    ((λ e. subst (λ (x : ReadAnswer). Reads s x) (sym (reads-one s b (w .0) (w .1)) ∙ e) (w .1)), reads-one s b a)
