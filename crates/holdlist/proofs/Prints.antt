@@ -1,18 +1,18 @@
 -- From the bytes that come in to the text that goes out: for every sequence of bytes, what is printed is exactly what specs/Prints.antt says. What a
 -- script reads to, the steps of the shortest list and the text that tells them are each one (read-exactly, runs-one, tells-one), so no other text is.
 -- Assumes nothing.
-use Prim.Native.Nat.{ℕ, suc, _≤_, _<_, _^_}
+use Prim.Native.Nat.{ℕ, _≤_, _<_, _^_}
 use native.Mathlib.Omega.{arith}
-use mathlib.Core.Path.{_≡_, refl, sym, ap, subst, _∙_}
+use mathlib.Core.Path.{_≡_, sym, ap, subst, _∙_}
 use mathlib.Core.Logic.{_↔_}
 use mathlib.Core.List.{List}
-use mathlib.Core.Bool.{Bool, true, false, false≢true}
-use lib.ListN.{length, getD, take, length-map}
+use mathlib.Core.Bool.{true, false, false≢true}
+use lib.ListN.{length, take, length-map}
 use lib.Seq.{take-all, length-take-le}
 use lib.Dec.{leb, eqb}
-use borrow.Author.Tests.{le-leb, lt-leb, leb-true, leb-false, eqb-true, eqb-false, eq-eqb, ne-eqb}
+use borrow.Author.Tests.{le-leb, lt-leb, leb-true, leb-false, eqb-true, eqb-false, ne-eqb}
 use Rattle.profile.specs.Bytes.{Bytes}
-use Rattle.profile.specs.Values.{emptyField, emptyProfile, accepted, refused, accepts}
+use Rattle.profile.specs.Values.{emptyField, emptyProfile, accepted}
 use Rattle.profile.specs.Geometry.{pixelCount}
 use Rattle.profile.specs.Rules.{checkProfile}
 use Rattle.profile.specs.Script.{readScript}
@@ -27,7 +27,6 @@ use Rattle.profile.proofs.Scripts.{read-exactly}
 use Rattle.level.proofs.Words.{field-words-length}
 use Rattle.holdlist.specs.Runs.{countOf, wordOf, countsOf, wordsOf}
 use Rattle.holdlist.specs.Compile.{holdVerdict, holdAnswer, profileWords, fieldRuns, compileAnswer}
-use Rattle.holdlist.specs.Demand.{Plays, PlaysField}
 use Rattle.holdlist.specs.Text.{refusedLine, listing, told, printedOf, printed}
 use Rattle.holdlist.specs.Readback.{Tells, TellsRefusal}
 use Rattle.holdlist.specs.Prints.{Shortest, Prints, refusal, no-room, steps-told}

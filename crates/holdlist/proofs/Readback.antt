@@ -15,7 +15,7 @@ use Rattle.profile.proofs.Laws.{by-cases, length-ones, getD-ones, each-append}
 use Rattle.holdlist.specs.Compile.{roomOf}
 use Rattle.holdlist.specs.Text.{digit, leading, decimal, valueAfter, valueOf, hexDigit, hex4, headLine, stepLine, refusedLine, stepLineAt, listing}
 use Rattle.holdlist.specs.Readback.{partsAfter, linesOf, Lines, fieldsOf, Decimal, hexDigitValue, hexAfter, hexValueOf, HexDigit, Hex, Tells, TellsRefusal}
-use Rattle.holdlist.proofs.Spelling.{leading-none, leading-more, value-append, decimal-value, decimal-digits, decimal-zero, decimal-leads}
+use Rattle.holdlist.proofs.Spelling.{Digits, leading-none, leading-more, value-append, decimal-value, decimal-digits, decimal-zero, decimal-leads}
 
 -- ---- short lists
 
@@ -78,7 +78,7 @@ pub decimal-reads : (n : ℕ) → Decimal (decimal n) n
 decimal-reads n =
     record {
       some = decimal-first n .0;
-      digits = λ i h. let d = decimal-digits n i h in (d .0, omega arith);
+      digits = decimal-digits n;
       no-zero-first = decimal-first n .1;
       value = decimal-value n;
     }
@@ -93,9 +93,6 @@ value-some : (ds : List ℕ) → 49 ≤ getD ds 0 0 → 0 < valueOf ds
 unfolding valueAfter
 value-some [] h = absurd (omega arith)
 value-some (d ∷ s) h = omega (arith, value-grows (10 * 0 + (d - 48)) s)
-
-abbrev Digits : List ℕ → Type 0
-Digits ds = (i : ℕ) → i < length ds → (48 ≤ getD ds i 0) × (getD ds i 0 ≤ 57)
 
 -- k digits and a last one, where those k spell their number
 module _ (k : ℕ) (ds : List ℕ) (sized : length ds ≡ suc k) (digits : Digits ds) where

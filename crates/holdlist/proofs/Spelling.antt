@@ -58,8 +58,8 @@ decimal-apart n m e = sym (decimal-value n) ∙ ap (λ (s : List ℕ). valueOf s
 
 -- ---- digits, and the first of them
 
-abbrev Digits : List ℕ → Type 0
-Digits s = (i : ℕ) → i < length s → (48 ≤ getD s i 0) × (getD s i 0 < 58)
+abbrev pub Digits : List ℕ → Type 0
+Digits s = (i : ℕ) → i < length s → (48 ≤ getD s i 0) × (getD s i 0 ≤ 57)
 
 digits-more : (s : List ℕ) (d : ℕ) → Digits s → d < 10 → Digits (s ++ (digit d ∷ []))
 digits-more [] d h l zero g = (omega arith, omega arith)

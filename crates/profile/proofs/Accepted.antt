@@ -6,11 +6,11 @@ use native.Mathlib.Nat.{add-sub-cancel}
 use native.Mathlib.Omega.{arith}
 use mathlib.Core.Path.{_≡_, refl, sym, ap, subst, _∙_}
 use mathlib.Core.Logic.{_↔_, _⊎_, inl, inr}
-use mathlib.Core.Bool.{Bool, true, false, cond, not, _&&_, _||_, false≢true}
+use mathlib.Core.Bool.{Bool, true, false, not, _&&_, _||_, false≢true}
 use mathlib.Core.List.{List, [], _∷_, _++_, map}
 use lib.ListN.{getD}
-use lib.Dec.{ltb, leb, eqb, lit≤}
-use borrow.Author.Tests.{ltb-true, ltb-false, leb-true, eqb-true, eqb-false, lt-ltb, eq-eqb, ne-eqb}
+use lib.Dec.{ltb, leb, lit≤}
+use borrow.Author.Tests.{ltb-true, ltb-false, eqb-true, eq-eqb, ne-eqb}
 use Rattle.profile.specs.Lists.{Each, all, chunks}
 use Rattle.profile.specs.Values.{accepted, refused, emptyGate, emptyShutter}
 use Rattle.profile.specs.Geometry.{regionCount, regionAt, firstLine, Ordered, sequenceAt, patternAt, lineLength, regionSize, gateLines}
@@ -19,7 +19,6 @@ use Rattle.profile.specs.Rules.{
   rule,
   firstBroken,
   startsRight,
-  togglesRight,
   hasSecond,
   secondOf,
   secondRight,
@@ -39,9 +38,6 @@ use Rattle.profile.specs.Rules.{
 }
 use Rattle.profile.specs.Ranges.{inRange}
 use Rattle.profile.specs.Obeys.{Seconds, Before, Starts, Pulses, Rule, turn, Earlier, FirstBroken}
-use Rattle.profile.specs.declared.Mode.{Mode}
-use Rattle.profile.specs.declared.Sequence.{Sequence}
-use Rattle.profile.specs.declared.Pattern.{Pattern}
 use Rattle.profile.specs.declared.Tables.{Tables}
 use Rattle.profile.specs.declared.Field.{Field}
 use Rattle.profile.specs.declared.Profile.{Profile}

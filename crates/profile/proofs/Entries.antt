@@ -1,13 +1,11 @@
 -- An ordered list of rules: which entry is the first broken one, in parts and chunk by chunk.
 -- An entry that answers number 0 would look like none, so the laws that need it ask that each has a number (`Numbered`).
 -- Assumes nothing.
-use mathlib.Core.Path.{_≡_, refl, ap, _∙_}
+use mathlib.Core.Path.{_≡_, refl, ap}
 use mathlib.Core.Bool.{true}
 use mathlib.Core.List.{List, [], _∷_, _++_}
-use Prim.Native.Nat.{ℕ, zero, suc, _≤_, _<_}
+use Prim.Native.Nat.{ℕ, _≤_}
 use native.Mathlib.Omega.{arith}
-use borrow.Author.Tests.{eqb-true, eqb-false}
-use lib.Dec.{eqb}
 use Rattle.profile.specs.Lists.{Each, chunks}
 use Rattle.profile.specs.Values.{accepted}
 use Rattle.profile.specs.Rules.{Entry, firstBroken}

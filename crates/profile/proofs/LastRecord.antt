@@ -1,15 +1,15 @@
 -- "A later record for the same item replaces the earlier": in the profile of a list of records an item is what the last record for it says, and
 -- empty where none is for it. A record leaves every other item as it was, and puts its own whatever was there.
 -- Assumes nothing.
-use Prim.Native.Nat.{ℕ, _+_, _*_, _≤_, _<_}
+use Prim.Native.Nat.{ℕ, _+_, _*_, _≤_}
 use native.Mathlib.Omega.{arith}
 use mathlib.Core.Path.{_≡_, refl, sym, ap, subst, _∙_}
 use mathlib.Core.List.{List, [], _∷_, _++_}
 use lib.ListN.{length, getD, set, length-set}
 use lib.Seq.{getD-set-same, getD-set-other}
-use Rattle.profile.specs.Bytes.{numberAt, dataAt}
-use Rattle.profile.specs.Values.{Sized, emptySequence, emptyGate, emptyShutter, emptyProfile}
-use Rattle.profile.specs.Script.{put, sequenceFrom, gateFrom, shutterFrom}
+use Rattle.profile.specs.Bytes.{numberAt}
+use Rattle.profile.specs.Values.{Sized, emptyProfile}
+use Rattle.profile.specs.Script.{put}
 use Rattle.profile.specs.Records.{
   Fits,
   register-fits,

@@ -1,22 +1,20 @@
 -- Reading answers exactly what document 01 says of a script as whole records and a first fault (specs/Records.antt).
 -- Assumes nothing.
 use Prim.Native.Nat.{ℕ, zero, suc, _+_, _-_, _*_, _/_, _%_, _≤_, _<_}
-use native.Mathlib.Nat.{add-zero}
 use native.Mathlib.Omega.{arith}
 use mathlib.Core.Path.{_≡_, refl, sym, ap, subst, _∙_}
 use mathlib.Core.Logic.{_↔_, _⊎_, inl, inr}
-use mathlib.Core.Bool.{Bool, true, false, cond, not, _&&_, _||_, false≢true}
+use mathlib.Core.Bool.{Bool, true, false, not, _||_, false≢true}
 use mathlib.Core.List.{List, [], _∷_, _++_, append-assoc, append-nil}
 use lib.ListN.{length, getD, take, drop, length-append, take-append-drop, length-drop}
 use lib.Seq.{length-take-le, take-append-seam}
 use lib.Dec.{ltb, leb, eqb}
-use borrow.Author.Tests.{ltb-true, ltb-false, leb-true, leb-false, eqb-true, eqb-false, lt-ltb, le-ltb, le-leb, lt-leb, eq-eqb, ne-eqb}
-use Rattle.profile.specs.Lists.{all, chunks}
+use borrow.Author.Tests.{ltb-true, ltb-false, leb-true, leb-false, eqb-true, lt-ltb, le-ltb, le-leb, lt-leb, eq-eqb, ne-eqb}
+use Rattle.profile.specs.Lists.{all}
 use Rattle.profile.specs.Bytes.{Bytes, numberAt, dataAt, twoBytes}
-use Rattle.profile.specs.Values.{emptyProfile, accepted, refused, accepts, readAnswer}
-use Rattle.profile.specs.Ranges.{sequenceRange, fieldRange, regionRange, gateRange, subckRange, shutterRange, inRange}
-use Rattle.profile.specs.Rules.{judge, checkProfile}
-use Rattle.profile.specs.Obeys.{SequenceRanged, FieldRanged, GateRanged, SubckRanged, ShutterRanged}
+use Rattle.profile.specs.Values.{emptyProfile, accepted, refused, readAnswer}
+use Rattle.profile.specs.Ranges.{sequenceRange, fieldRange, gateRange, shutterRange, inRange}
+use Rattle.profile.specs.Rules.{checkProfile}
 use Rattle.profile.specs.Script.{
   registerFits,
   sequenceFits,
@@ -31,12 +29,10 @@ use Rattle.profile.specs.Script.{
   subckFrom,
   shutterFrom,
   known,
-  fieldLength,
   allowed,
   fits,
   put,
   bodyOf,
-  Step,
   stop,
   next,
   step,
@@ -84,11 +80,11 @@ use Rattle.profile.specs.declared.Profile.{Profile}
 use Rattle.profile.specs.declared.Verdict.{Verdict}
 use Rattle.profile.specs.declared.ReadAnswer.{ReadAnswer}
 use Rattle.profile.proofs.Laws.{by-cases, and-left, and-right, and-intro, passed, all-passed, all-chunks, chunks-all}
-use Rattle.profile.proofs.Reflects.{Says, says-lt, says-le, says-eq, says-and, says-where}
+use Rattle.profile.proofs.Reflects.{Says, says-le, says-eq, says-and, says-where}
 use Rattle.profile.proofs.Checked.{check-judge}
 use Rattle.profile.proofs.Accepted.{Judged, check-judged, accepted-exactly, refused-exactly, broken-number}
 use Rattle.profile.proofs.Carried.{sequence-says, gate-says, subck-says, shutter-says, field-says}
-use Rattle.profile.proofs.Takes.{Takes, takes-record, takes-none, takes-then, takes-all, records-stop, records-done}
+use Rattle.profile.proofs.Takes.{Takes, takes-record, takes-none, takes-then, takes-all, records-stop}
 use Rattle.profile.proofs.Bodies.{join-two, step-takes}
 use Rattle.profile.proofs.ByteRange.{bytes-tail}
 use Rattle.profile.proofs.Reading.{records-in, empty-in}

@@ -1,7 +1,7 @@
 -- A written script's length: at most 1,312 bytes, and at least 998 where the check accepts the profile.
 -- The registers take 960; an accepted profile has a field of at least one region, whose sequence is present.
 -- Assumes nothing.
-use mathlib.Core.Path.{_≡_, refl, sym, _∙_}
+use mathlib.Core.Path.{_≡_, refl}
 use mathlib.Core.Bool.{Bool, true, cond}
 use mathlib.Core.List.{List, []}
 use Prim.Native.Nat.{ℕ, _+_, _*_, _≤_, _<_}
