@@ -93,7 +93,7 @@ fn line_from(n: [u16; 240], i: u64) -> Line
         repetitions: n[51],
         mask1: mask_of(n[52] % 2 == 1, pattern.freeze1, pattern.resume1),
         mask2: mask_of(n[52] / 2 % 2 == 1, pattern.freeze2, pattern.resume2),
-        double: n[53] == 1,
+        second_acts: n[53] == 1,
         second: pattern_of(n, 1),
         gates: [
             pulse_at(n, 54),
@@ -109,7 +109,7 @@ fn line_from(n: [u16; 240], i: u64) -> Line
 }
 
 // A word times its place, counted from 1.
-fn weigh(word: u16, j: usize) -> u64
+fn word_term(word: u16, j: usize) -> u64
     requires { ⌜ j < 4095 ⌝ }
     ensures { λ r. ⌜ r ≤ 268365825 ⌝ }
 {
@@ -126,7 +126,7 @@ fn line_sum(n: [u16; 240], i: u64) -> u64
     let mut sum: u64 = 0;
     let mut j: usize = 0;
     while j < 4095 {
-        sum += weigh(out[j], j);
+        sum += word_term(out[j], j);
         j += 1;
     }
     sum

@@ -4,9 +4,9 @@ ghost use Prim.Native.Nat.{_≤_};
 ghost use lib.ListN.{length, take};
 ghost use Rattle.holdlist.specs.Prints.{Prints};
 ghost use Rattle.holdlist.specs.Text.{printed};
-use inlet::Input;
 use libc::STDERR_FILENO;
 use libc::STDOUT_FILENO;
+use standard_input::Input;
 
 // One byte more than the longest script, so that a longer one is seen to be longer.
 fn script_room() -> [u8; 16385]
@@ -51,7 +51,7 @@ fn put_answer(script: &[u8], out: &mut [u8]) -> usize
     let mut counts = count_room();
     let mut words = word_room();
     let compiled = holdlist::compile(profile, &mut counts, &mut words);
-    holdlist::put_told(out, 0, compiled, &counts, &words)
+    holdlist::put_printed(out, 0, compiled, &counts, &words)
 }
 
 // What cannot be written is left: there is nobody to tell.
@@ -63,7 +63,7 @@ fn print_answer(script: &[u8]) {
 
 fn main() {
     let mut script = script_room();
-    match inlet::read_all(&mut script) {
+    match standard_input::read_all(&mut script) {
         Input::Bytes(n) => print_answer(&script[..n]),
         Input::Failed => {
             io::write_all(STDERR_FILENO, b"booth: cannot read standard input\n");

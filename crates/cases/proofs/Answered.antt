@@ -12,7 +12,7 @@ use Rattle.profile.specs.Writing.{writeAnswer, writeLeaves}
 use Rattle.profile.specs.declared.Profile.{Profile}
 use Rattle.profile.specs.declared.Written.{Written}
 use Rattle.level.specs.Place.{levelAnswer, locateAnswer}
-use Rattle.holdlist.specs.Compile.{roomOf, compileAnswer, compileCounts, compileWords}
+use Rattle.holdlist.specs.Compile.{Compiles}
 use Rattle.holdlist.specs.Play.{playAnswer}
 use Rattle.holdlist.specs.declared.Compiled.{Compiled}
 use Rattle.cases.specs.Raw.{eightAt, numbersFrom, foursFrom, rawProfile}
@@ -24,11 +24,9 @@ unfolding writeOf
 write-told p s s′ r e l = rw (e, l)
 
 pub compile-told :
-    (p : Profile) (cs ws cs′ ws′ : List ℕ) (r : Compiled) →
-    r ≡ compileAnswer p (roomOf cs ws) → cs′ ≡ compileCounts p (roomOf cs ws) cs → ws′ ≡ compileWords p (roomOf cs ws) ws →
-    compileText r cs′ ws′ ≡ compileOf p cs ws
+    {p : Profile} {cs ws cs′ ws′ : List ℕ} {r : Compiled} → Compiles p cs ws r cs′ ws′ → compileText r cs′ ws′ ≡ compileOf p cs ws
 unfolding compileOf
-compile-told p cs ws cs′ ws′ r e l m = rw (e, l, m)
+compile-told c = rw (c .answer, c .counts, c .words)
 
 -- lists that were filled from a payload
 module _ (b cs ws cs′ ws′ : List ℕ) (n : ℕ) where

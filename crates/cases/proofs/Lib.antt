@@ -1,5 +1,5 @@
 pub mod Filling
-pub mod Chunked
+pub mod Putting
 pub mod Parts
 pub mod Answered
 pub mod Refusing

@@ -16,7 +16,7 @@ use Rattle.holdlist.specs.Text.{Puts}
 use Rattle.holdlist.proofs.Puts.{puts-none, puts-length}
 use Rattle.cases.specs.Answer.{caseLine}
 use Rattle.cases.specs.Kinds.{linesOf}
-use Rattle.cases.specs.Faults.{belowTest, listsEnd, isRight, answerText}
+use Rattle.cases.specs.Faults.{belowTest, below, listsEnd, isRight, answerText}
 
 -- ---- numbers below a limit
 
@@ -25,18 +25,34 @@ unfolding all
 all-one true = refl
 all-one false = refl
 
-pub below-none : (f : ℕ → List Bool) → true ≡ all (chunks 0 f)
-unfolding all chunks
-below-none f = refl
+-- the first i of n numbers are tested, and the place is that of the next
+pub record Tested (b : List ℕ) (at step n limit i place : ℕ) (r : Bool) : Type 0 where
+  pub within : i ≤ n
+  pub low : place ≤ at + 100 * i
+  pub there : place ≡ at + step * i
+  pub told : r ≡ all (chunks i (belowTest b at step limit))
 
-pub below-more :
-    (b : List ℕ) (at step limit i place v : ℕ) (r : Bool) →
-    r ≡ all (chunks i (belowTest b at step limit)) → place ≡ at + step * i → v ≡ numberAt b place →
-    r && ltb v limit ≡ all (chunks (i + 1) (belowTest b at step limit))
-below-more b at step limit i place v r er ep ev = rw (ev, ep, chunks-more, all-append, all-one, er)
+module _ {b : List ℕ} {at step n limit : ℕ} where
+  pub tested-none : Tested b at step n limit 0 at true
+  unfolding all chunks
+  tested-none = record { within = omega arith; low = omega arith; there = omega arith; told = refl }
 
-pub place-more : (at step i place : ℕ) → place ≡ at + step * i → place + step ≡ at + step * (i + 1)
-place-more at step i place e = omega (arith, mul-add step i 1)
+  pub tested-more :
+      {i place v : ℕ} {r : Bool} →
+      Tested b at step n limit i place r → i < n → step < 100 → v ≡ numberAt b place → Tested b at step n limit (i + 1) (place + step) (r && ltb v limit)
+  tested-more {i} t h s e =
+      record {
+        within = omega arith;
+        low = omega arith;
+        there = omega (arith, mul-add step i 1);
+        told = rw (e, t .there, chunks-more, all-append, all-one, t .told);
+      }
+
+  pub tested-all : {i place : ℕ} {r : Bool} → Tested b at step n limit i place r → n ≤ i → r ≡ below b at step n limit
+  unfolding below
+  tested-all {i} t h = let e : i ≡ n = omega arith in rw e at (t .told)
+
+pub ruleset testing = (tested-none, tested-more)
 
 -- ---- lists
 

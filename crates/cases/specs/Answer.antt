@@ -1,8 +1,8 @@
 -- The text of the answers of tests/cases/FORMAT.md: decimal numbers parted by single spaces, bytes as upper-case hex, LF at each line's end.
 -- Assumes nothing.
-use Prim.Native.Nat.{ℕ, _/_, _%_}
+use Prim.Native.Nat.{ℕ}
 use mathlib.Core.List.{List, [], _∷_, _++_}
-use mathlib.Core.Bool.{Bool, cond}
+use mathlib.Core.Bool.{Bool, true, false, cond, _&&_}
 use lib.Dec.{eqb}
 use lib.ListN.{length, getD}
 use Rattle.profile.specs.Lists.{chunks}
@@ -20,35 +20,37 @@ use Rattle.holdlist.specs.Text.{decimal, hex2}
 
 -- ---- numbers of a line
 
--- a number after another, and number i of a line
+-- a number after another, and one that may stand at a line's front
 abbrev pub after : ℕ → List ℕ
 after n = (32 ∷ []) ++ decimal n
 
-unfoldable pub next : ℕ → ℕ → List ℕ
-next i n = cond (eqb i 0) (decimal n) (after n)
+unfoldable pub numberText : Bool → ℕ → List ℕ
+numberText front n = cond front (decimal n) (after n)
 
--- numbers after another, and those of a line from its front
-unfoldable pub afters : List ℕ → List ℕ
-afters ns = chunks (length ns) (λ i. after (getD ns i 0))
+-- numbers, of which the first may stand at a line's front
+unfoldable pub numbersText : Bool → List ℕ → List ℕ
+numbersText front ns = chunks (length ns) (λ i. numberText (front && eqb i 0) (getD ns i 0))
 
-unfoldable pub joined : List ℕ → List ℕ
-joined ns = chunks (length ns) (λ i. next i (getD ns i 0))
+-- those of a line from its front, and those after another
+abbrev pub joined : List ℕ → List ℕ
+joined ns = numbersText true ns
+
+abbrev pub afters : List ℕ → List ℕ
+afters ns = numbersText false ns
 
 abbrev pub joinedLine : List ℕ → List ℕ
 joinedLine ns = joined ns ++ (10 ∷ [])
 
 -- ---- bytes
 
-unfoldable pub hexOf : List ℕ → List ℕ
-hexOf bs = chunks (length bs) (λ i. hex2 (getD bs i 0))
-
 abbrev pub hexLine : List ℕ → List ℕ
-hexLine bs = hexOf bs ++ (10 ∷ [])
+hexLine bs = chunks (length bs) (λ i. hex2 (getD bs i 0)) ++ (10 ∷ [])
 
 -- ---- a profile as its 380 numbers
 
 abbrev pub flagNumber : Bool → ℕ
-flagNumber b = cond b 1 0
+flagNumber false = 0
+flagNumber true = 1
 
 abbrev pub sequenceNumbers : Sequence → List ℕ
 sequenceNumbers s =
@@ -70,13 +72,13 @@ regionNumbers r = r .first ∷ r .sequence ∷ modeNumber (r .mode) ∷ []
 abbrev pub fieldNumbers : Field → List ℕ
 fieldNumbers f = flagNumber (f .present) ∷ f .lines ∷ f .last ∷ f .gate ∷ f .second ∷ f .count ∷ []
 
-unfoldable pub sequencesText : List Sequence → List ℕ
+abbrev pub sequencesText : List Sequence → List ℕ
 sequencesText ss = chunks 10 (λ i. afters (sequenceNumbers (getD ss i emptySequence)))
 
-unfoldable pub gatesText : List Gate → List ℕ
+abbrev pub gatesText : List Gate → List ℕ
 gatesText gs = chunks 5 (λ i. afters (gateNumbers (getD gs i emptyGate)))
 
-unfoldable pub regionsText : List Region → List ℕ
+abbrev pub regionsText : List Region → List ℕ
 regionsText rs = chunks 7 (λ i. afters (regionNumbers (getD rs i emptyRegion)))
 
 unfoldable pub tablesText : Tables → List ℕ
@@ -84,10 +86,10 @@ tablesText t =
     joined (t .registers) ++ sequencesText (t .sequences) ++ gatesText (t .gates) ++ afters (subckNumbers (t .subck))
     ++ afters (shutterNumbers (getD (t .shutters) 0 emptyShutter)) ++ afters (shutterNumbers (getD (t .shutters) 1 emptyShutter))
 
-unfoldable pub fieldText : Field → List ℕ
+abbrev pub fieldText : Field → List ℕ
 fieldText f = afters (fieldNumbers f) ++ regionsText (f .regions)
 
-unfoldable pub profileLine : Profile → List ℕ
+abbrev pub profileLine : Profile → List ℕ
 profileLine p = tablesText (p .tables) ++ fieldText (p .field) ++ (10 ∷ [])
 
 -- ---- first lines
@@ -96,5 +98,5 @@ abbrev pub headText : Verdict → List ℕ
 headText v = decimal (v .number) ++ after (v .place)
 
 -- "CASE k KIND"
-unfoldable pub caseLine : ℕ → ℕ → List ℕ
-caseLine k kind = (67 ∷ 65 ∷ 83 ∷ 69 ∷ []) ++ after k ++ (32 ∷ []) ++ (kind ∷ []) ++ (10 ∷ [])
+abbrev pub caseLine : ℕ → ℕ → List ℕ
+caseLine k kind = (67 ∷ 65 ∷ 83 ∷ 69 ∷ []) ++ after k ++ (32 ∷ kind ∷ 10 ∷ [])

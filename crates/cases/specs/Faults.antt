@@ -21,7 +21,7 @@ below b at step n limit = all (chunks n (belowTest b at step limit))
 -- the present flags of sequences, of gates, of SUBCK, shutters and field; then the modes
 unfoldable pub isRaw : List ℕ → Bool
 isRaw b =
-    leb 760 (length b) && (((below b 480 14 10 2 && below b 620 10 5 2) && below b 670 12 4 2) && below b 722 6 7 3)
+    (((leb 760 (length b) && below b 480 14 10 2) && below b 620 10 5 2) && below b 670 12 4 2) && below b 722 6 7 3
 
 -- c counts and w words from a place on are the rest of n bytes; "A list has at most 4,096 entries"
 unfoldable pub listsEnd : ℕ → ℕ → ℕ → ℕ → Bool
@@ -32,7 +32,7 @@ abbrev pub hasLists : List ℕ → ℕ → ℕ → Bool
 hasLists b at from = listsEnd (length b) from (fourAt b at) (fourAt b (at + 4))
 
 -- R, C, W, L, N, K, P
-unfoldable pub isRight : ℕ → List ℕ → Bool
+abbrev pub isRight : ℕ → List ℕ → Bool
 isRight kind b =
     cond (eqb kind 82) (leb (length b) 40000)
     (cond (eqb kind 67) (isRaw b && eqb (length b) 760)

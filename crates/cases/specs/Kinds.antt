@@ -24,29 +24,36 @@ use Rattle.cases.specs.Answer.{after, headText, hexLine, joinedLine, pro
 
 -- ---- lines of an answer
 
-unfoldable pub verdictText : Verdict → List ℕ
+-- a verdict alone, with a number, with two
+abbrev pub verdictText : Verdict → List ℕ
 verdictText v = headText v ++ (10 ∷ [])
 
-unfoldable pub readText : ReadAnswer → List ℕ
+abbrev pub verdictWith : Verdict → ℕ → List ℕ
+verdictWith v m = headText v ++ after m ++ (10 ∷ [])
+
+abbrev pub verdictWithTwo : Verdict → ℕ → ℕ → List ℕ
+verdictWithTwo v m n = headText v ++ after m ++ after n ++ (10 ∷ [])
+
+abbrev pub readText : ReadAnswer → List ℕ
 readText a = verdictText (a .verdict) ++ profileLine (a .profile)
 
-unfoldable pub levelText : LevelAnswer → List ℕ
-levelText a = headText (a .verdict) ++ after (a .word) ++ (10 ∷ [])
+abbrev pub levelText : LevelAnswer → List ℕ
+levelText a = verdictWith (a .verdict) (a .word)
 
-unfoldable pub locateText : Located → List ℕ
-locateText a = headText (a .verdict) ++ after (a .line) ++ after (a .pixel) ++ (10 ∷ [])
+abbrev pub locateText : Located → List ℕ
+locateText a = verdictWithTwo (a .verdict) (a .line) (a .pixel)
 
 -- beside the slice at exit
 unfoldable pub writeText : Written → List ℕ → List ℕ
-writeText a s = headText (a .verdict) ++ after (a .length) ++ (10 ∷ []) ++ hexLine s
+writeText a s = verdictWith (a .verdict) (a .length) ++ hexLine s
 
 -- beside the lists at exit
 unfoldable pub compileText : Compiled → List ℕ → List ℕ → List ℕ
 compileText a cs ws =
-    headText (a .verdict) ++ after (a .steps) ++ after (a .pixels) ++ (10 ∷ []) ++ joinedLine cs ++ joinedLine ws
+    verdictWithTwo (a .verdict) (a .steps) (a .pixels) ++ joinedLine cs ++ joinedLine ws
 
-unfoldable pub playText : Played → List ℕ
-playText a = headText (a .verdict) ++ after (a .word) ++ (10 ∷ [])
+abbrev pub playText : Played → List ℕ
+playText a = verdictWith (a .verdict) (a .word)
 
 -- ---- answers to a payload
 

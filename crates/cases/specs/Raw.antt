@@ -2,7 +2,6 @@
 -- Assumes nothing.
 use Prim.Native.Nat.{ℕ, _+_, _*_}
 use mathlib.Core.List.{List, [], _∷_}
-use mathlib.Core.Bool.{Bool}
 use lib.Dec.{eqb}
 use lib.ListN.{getD}
 use Rattle.profile.specs.Lists.{chunks}
@@ -26,9 +25,6 @@ fourAt b at = getD b at 0 + 256 * getD b (at + 1) 0 + 65536 * getD b (at + 2) 0 
 abbrev pub eightAt : List ℕ → ℕ → ℕ
 eightAt b at = fourAt b at + 4294967296 * fourAt b (at + 4)
 
-abbrev pub flagAt : List ℕ → ℕ → Bool
-flagAt b at = eqb (numberAt b at) 1
-
 -- n numbers from a place on
 abbrev pub numbersFrom : List ℕ → ℕ → ℕ → List ℕ
 numbersFrom b at n = chunks n (λ i. numberAt b (at + 2 * i) ∷ [])
@@ -36,92 +32,102 @@ numbersFrom b at n = chunks n (λ i. numberAt b (at + 2 * i) ∷ [])
 abbrev pub foursFrom : List ℕ → ℕ → ℕ → List ℕ
 foursFrom b at n = chunks n (λ i. fourAt b (at + 4 * i) ∷ [])
 
--- ---- items
+-- ---- items, from number k of the raw profile on
 
-abbrev pub sequenceAt : List ℕ → ℕ → Sequence
-sequenceAt b at =
+abbrev pub rawSequence : List ℕ → ℕ → Sequence
+rawSequence ns k =
     record {
-      present = flagAt b at;
-      pattern = numberAt b (at + 2);
-      length = numberAt b (at + 4);
-      start = numberAt b (at + 6);
-      odd = numberAt b (at + 8);
-      even = numberAt b (at + 10);
-      mask = numberAt b (at + 12);
+      present = eqb (getD ns k 0) 1;
+      pattern = getD ns (k + 1) 0;
+      length = getD ns (k + 2) 0;
+      start = getD ns (k + 3) 0;
+      odd = getD ns (k + 4) 0;
+      even = getD ns (k + 5) 0;
+      mask = getD ns (k + 6) 0;
     }
 
-abbrev pub gateAt : List ℕ → ℕ → Gate
-gateAt b at =
+abbrev pub rawGate : List ℕ → ℕ → Gate
+rawGate ns k =
     record {
-      present = flagAt b at;
-      on = numberAt b (at + 2);
-      level = numberAt b (at + 4);
-      toggle1 = numberAt b (at + 6);
-      toggle2 = numberAt b (at + 8);
+      present = eqb (getD ns k 0) 1;
+      on = getD ns (k + 1) 0;
+      level = getD ns (k + 2) 0;
+      toggle1 = getD ns (k + 3) 0;
+      toggle2 = getD ns (k + 4) 0;
     }
 
-abbrev pub subckAt : List ℕ → ℕ → Subck
-subckAt b at =
+abbrev pub rawSubck : List ℕ → ℕ → Subck
+rawSubck ns k =
     record {
-      present = flagAt b at;
-      level = numberAt b (at + 2);
-      toggle1 = numberAt b (at + 4);
-      toggle2 = numberAt b (at + 6);
-      suppressed = numberAt b (at + 8);
-      count = numberAt b (at + 10);
+      present = eqb (getD ns k 0) 1;
+      level = getD ns (k + 1) 0;
+      toggle1 = getD ns (k + 2) 0;
+      toggle2 = getD ns (k + 3) 0;
+      suppressed = getD ns (k + 4) 0;
+      count = getD ns (k + 5) 0;
     }
 
-abbrev pub shutterAt : List ℕ → ℕ → Shutter
-shutterAt b at =
+abbrev pub rawShutter : List ℕ → ℕ → Shutter
+rawShutter ns k =
     record {
-      present = flagAt b at;
-      active = numberAt b (at + 2);
-      «on_line» = numberAt b (at + 4);
-      «on_pixel» = numberAt b (at + 6);
-      «off_line» = numberAt b (at + 8);
-      «off_pixel» = numberAt b (at + 10);
+      present = eqb (getD ns k 0) 1;
+      active = getD ns (k + 1) 0;
+      «on_line» = getD ns (k + 2) 0;
+      «on_pixel» = getD ns (k + 3) 0;
+      «off_line» = getD ns (k + 4) 0;
+      «off_pixel» = getD ns (k + 5) 0;
     }
 
-abbrev pub regionAt : List ℕ → ℕ → Region
-regionAt b at = record { first = numberAt b at; sequence = numberAt b (at + 2); mode = modeOf (numberAt b (at + 4)) }
+abbrev pub rawRegion : List ℕ → ℕ → Region
+rawRegion ns k = record { first = getD ns k 0; sequence = getD ns (k + 1) 0; mode = modeOf (getD ns (k + 2) 0) }
 
 -- ---- the raw profile
 
-unfoldable pub rawSequences : List ℕ → List Sequence
-rawSequences b = chunks 10 (λ i. sequenceAt b (480 + 14 * i) ∷ [])
+abbrev pub rawNumbers : List ℕ → List ℕ
+rawNumbers b = numbersFrom b 0 380
 
-unfoldable pub rawGates : List ℕ → List Gate
-rawGates b = chunks 5 (λ i. gateAt b (620 + 10 * i) ∷ [])
+abbrev pub rawSequences : List ℕ → List Sequence
+rawSequences ns =
+    rawSequence ns 240 ∷ rawSequence ns 247 ∷ rawSequence ns 254 ∷ rawSequence ns 261 ∷ rawSequence ns 268
+    ∷ rawSequence ns 275 ∷ rawSequence ns 282 ∷ rawSequence ns 289 ∷ rawSequence ns 296 ∷ rawSequence ns 303 ∷ []
 
-unfoldable pub rawShutters : List ℕ → List Shutter
-rawShutters b = chunks 2 (λ i. shutterAt b (682 + 12 * i) ∷ [])
+abbrev pub rawGates : List ℕ → List Gate
+rawGates ns = rawGate ns 310 ∷ rawGate ns 315 ∷ rawGate ns 320 ∷ rawGate ns 325 ∷ rawGate ns 330 ∷ []
 
-unfoldable pub rawRegions : List ℕ → List Region
-rawRegions b = chunks 7 (λ i. regionAt b (718 + 6 * i) ∷ [])
+abbrev pub rawShutters : List ℕ → List Shutter
+rawShutters ns = rawShutter ns 341 ∷ rawShutter ns 347 ∷ []
+
+abbrev pub rawRegions : List ℕ → List Region
+rawRegions ns =
+    rawRegion ns 359 ∷ rawRegion ns 362 ∷ rawRegion ns 365
+    ∷ rawRegion ns 368 ∷ rawRegion ns 371 ∷ rawRegion ns 374 ∷ rawRegion ns 377 ∷ []
 
 -- 240 half registers, 10 sequences, 5 gates, SUBCK, 2 shutters
 unfoldable pub rawTables : List ℕ → Tables
 rawTables b =
     record {
       registers = numbersFrom b 0 240;
-      sequences = rawSequences b;
-      gates = rawGates b;
-      subck = subckAt b 670;
-      shutters = rawShutters b;
+      sequences = rawSequences (rawNumbers b);
+      gates = rawGates (rawNumbers b);
+      subck = rawSubck (rawNumbers b) 335;
+      shutters = rawShutters (rawNumbers b);
     }
 
 -- the field's numbers, then 7 regions
-unfoldable pub rawField : List ℕ → Field
-rawField b =
+abbrev pub fieldWith : List ℕ → List Region → Field
+fieldWith ns regions =
     record {
-      present = flagAt b 706;
-      lines = numberAt b 708;
-      last = numberAt b 710;
-      gate = numberAt b 712;
-      second = numberAt b 714;
-      count = numberAt b 716;
-      regions = rawRegions b;
+      present = eqb (getD ns 353 0) 1;
+      lines = getD ns 354 0;
+      last = getD ns 355 0;
+      gate = getD ns 356 0;
+      second = getD ns 357 0;
+      count = getD ns 358 0;
+      regions = regions;
     }
+
+unfoldable pub rawField : List ℕ → Field
+rawField b = fieldWith (rawNumbers b) (rawRegions (rawNumbers b))
 
 abbrev pub rawProfile : List ℕ → Profile
 rawProfile b = record { tables = rawTables b; field = rawField b }

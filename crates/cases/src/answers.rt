@@ -27,7 +27,7 @@ ghost use Rattle.holdlist.specs.Play.{playAnswer};
 ghost use Rattle.holdlist.specs.Text.{Puts};
 ghost use Rattle.cases.specs.Raw.{rawProfile, eightAt};
 ghost use Rattle.cases.specs.Answer.{caseLine};
-ghost use Rattle.cases.specs.Kinds.{verdictText, readText, levelText, locateText, writeOf, lengthAt, compileOf, compileLines, playText, playLines, linesOf};
+ghost use Rattle.cases.specs.Kinds.{verdictText, verdictWith, verdictWithTwo, readText, levelText, locateText, writeOf, lengthAt, compileOf, compileLines, playText, playLines, linesOf};
 ghost use Rattle.cases.specs.Faults.{isRight, answerText};
 
 // Room for 4,096 steps.
@@ -43,11 +43,29 @@ fn word_room() -> [u16; 4096]
     [0; 4096]
 }
 
+// The line of a verdict; with a number; with two.
 fn put_verdict_line(out: &mut [u8], at: usize, verdict: Verdict) -> usize
     ensures { λ r. ⌜ Puts (verdictText verdict) (now (out .entry)) at r (now (out .exit)) ⌝ }
 {
     let a = put_verdict(out, at, verdict);
     put_byte(out, a, 10)
+}
+
+fn put_verdict_with(out: &mut [u8], at: usize, verdict: Verdict, m: u64) -> usize
+    ensures { λ r. ⌜ Puts (verdictWith verdict m) (now (out .entry)) at r (now (out .exit)) ⌝ }
+{
+    let a = put_verdict(out, at, verdict);
+    let b = put_after(out, a, m);
+    put_byte(out, b, 10)
+}
+
+fn put_verdict_with_two(out: &mut [u8], at: usize, verdict: Verdict, m: u64, n: u64) -> usize
+    ensures { λ r. ⌜ Puts (verdictWithTwo verdict m n) (now (out .entry)) at r (now (out .exit)) ⌝ }
+{
+    let a = put_verdict(out, at, verdict);
+    let b = put_after(out, a, m);
+    let c = put_after(out, b, n);
+    put_byte(out, c, 10)
 }
 
 fn put_read(out: &mut [u8], at: usize, payload: &[u8]) -> usize
@@ -84,10 +102,8 @@ fn put_written(out: &mut [u8], at: usize, profile: Profile, slice: &mut [u8]) ->
 {
     let written = profile::write(profile, slice);
     let verdict = written.verdict;
-    let a = put_verdict(out, at, verdict);
-    let b = put_after(out, a, written.length as u64);
-    let c = put_byte(out, b, 10);
-    put_hex_line(out, c, slice)
+    let a = put_verdict_with(out, at, verdict, written.length as u64);
+    put_hex_line(out, a, slice)
 }
 
 // The slice that is lent is the payload's part after the raw profile.
@@ -107,9 +123,7 @@ fn put_level(out: &mut [u8], at: usize, payload: &[u8]) -> usize
     let profile = raw_profile(payload);
     let answer = level::level(profile, line, pixel);
     let verdict = answer.verdict;
-    let a = put_verdict(out, at, verdict);
-    let b = put_after(out, a, answer.word as u64);
-    put_byte(out, b, 10)
+    put_verdict_with(out, at, verdict, answer.word as u64)
 }
 
 fn put_locate(out: &mut [u8], at: usize, payload: &[u8]) -> usize
@@ -119,10 +133,7 @@ fn put_locate(out: &mut [u8], at: usize, payload: &[u8]) -> usize
     let profile = raw_profile(payload);
     let located = level::locate(profile, n);
     let verdict = located.verdict;
-    let a = put_verdict(out, at, verdict);
-    let b = put_after(out, a, located.line);
-    let c = put_after(out, b, located.pixel);
-    put_byte(out, c, 10)
+    put_verdict_with_two(out, at, verdict, located.line, located.pixel)
 }
 
 fn put_compiled(
@@ -183,9 +194,7 @@ fn put_played(
 {
     let played = holdlist::play(counts, words, used as usize, position);
     let verdict = played.verdict;
-    let a = put_verdict(out, at, verdict);
-    let b = put_after(out, a, played.word as u64);
-    put_byte(out, b, 10)
+    put_verdict_with(out, at, verdict, played.word as u64)
 }
 
 // Fills the lists from the payload and plays them.

@@ -7,10 +7,10 @@ ghost use mathlib.Core.Path.{_≡_};
 ghost use lib.ListN.{length};
 use crate::answers::put_answer;
 use crate::raw::four_at;
-use inlet::Input;
-use inlet::read_all;
 use libc::STDERR_FILENO;
 use libc::STDOUT_FILENO;
+use standard_input::Input;
+use standard_input::read_all;
 
 // How a case went.
 enum Outcome {

@@ -12,7 +12,7 @@ ghost use mathlib.Core.Path.{_≡_};
 ghost use Prim.Native.Nat.{_+_, _*_, _<_, min};
 ghost use lib.ListN.{length, getD};
 ghost use Rattle.profile.specs.Bytes.{numberAt};
-ghost use Rattle.cases.specs.Raw.{flagAt, fourAt, eightAt, sequenceAt, gateAt, subckAt, shutterAt, regionAt, numbersFrom, foursFrom, rawSequences, rawGates, rawShutters, rawRegions, rawTables, rawField, rawProfile};
+ghost use Rattle.cases.specs.Raw.{fourAt, eightAt, rawSequence, rawGate, rawSubck, rawShutter, rawRegion, numbersFrom, foursFrom, rawNumbers, rawSequences, rawGates, rawShutters, rawRegions, fieldWith, rawProfile};
 ghost use Rattle.cases.specs.Faults.{below, isRaw, hasLists};
 
 // ---- numbers
@@ -85,79 +85,72 @@ pub(crate) fn fill_fours(list: &mut [u32], body: &[u8], at: usize)
     }
 }
 
-// ---- items
+// ---- items, from number k of the raw profile on
 
-fn flag_at(body: &[u8], at: usize) -> bool
-    requires { ⌜ at < 1000 ⌝ }
-    ensures { λ r. ⌜ r ≡ flagAt (now (body .entry)) at ⌝ }
-{
-    number_at(body, at) == 1
-}
-
-fn sequence_at(body: &[u8], at: usize) -> Sequence
-    requires { ⌜ at < 900 ⌝ }
-    ensures { λ r. ⌜ r ≡ sequenceAt (now (body .entry)) at ⌝ }
+fn raw_sequence(n: [u16; 380], k: usize) -> Sequence
+    requires { ⌜ k < 370 ⌝ }
+    ensures { λ r. ⌜ r ≡ rawSequence n k ⌝ }
 {
     Sequence {
-        present: flag_at(body, at),
-        pattern: number_at(body, at + 2),
-        length: number_at(body, at + 4),
-        start: number_at(body, at + 6),
-        odd: number_at(body, at + 8),
-        even: number_at(body, at + 10),
-        mask: number_at(body, at + 12),
+        present: n[k] == 1,
+        pattern: n[k + 1],
+        length: n[k + 2],
+        start: n[k + 3],
+        odd: n[k + 4],
+        even: n[k + 5],
+        mask: n[k + 6],
     }
 }
 
-fn gate_at(body: &[u8], at: usize) -> Gate
-    requires { ⌜ at < 900 ⌝ }
-    ensures { λ r. ⌜ r ≡ gateAt (now (body .entry)) at ⌝ }
+fn raw_gate(n: [u16; 380], k: usize) -> Gate
+    requires { ⌜ k < 370 ⌝ }
+    ensures { λ r. ⌜ r ≡ rawGate n k ⌝ }
 {
     Gate {
-        present: flag_at(body, at),
-        on: number_at(body, at + 2),
-        level: number_at(body, at + 4),
-        toggle1: number_at(body, at + 6),
-        toggle2: number_at(body, at + 8),
+        present: n[k] == 1,
+        on: n[k + 1],
+        level: n[k + 2],
+        toggle1: n[k + 3],
+        toggle2: n[k + 4],
     }
 }
 
-fn subck_at(body: &[u8], at: usize) -> Subck
-    requires { ⌜ at < 900 ⌝ }
-    ensures { λ r. ⌜ r ≡ subckAt (now (body .entry)) at ⌝ }
+fn raw_subck(n: [u16; 380], k: usize) -> Subck
+    requires { ⌜ k < 370 ⌝ }
+    ensures { λ r. ⌜ r ≡ rawSubck n k ⌝ }
 {
     Subck {
-        present: flag_at(body, at),
-        level: number_at(body, at + 2),
-        toggle1: number_at(body, at + 4),
-        toggle2: number_at(body, at + 6),
-        suppressed: number_at(body, at + 8),
-        count: number_at(body, at + 10),
+        present: n[k] == 1,
+        level: n[k + 1],
+        toggle1: n[k + 2],
+        toggle2: n[k + 3],
+        suppressed: n[k + 4],
+        count: n[k + 5],
     }
 }
 
-fn shutter_at(body: &[u8], at: usize) -> Shutter
-    requires { ⌜ at < 900 ⌝ }
-    ensures { λ r. ⌜ r ≡ shutterAt (now (body .entry)) at ⌝ }
+fn raw_shutter(n: [u16; 380], k: usize) -> Shutter
+    requires { ⌜ k < 370 ⌝ }
+    ensures { λ r. ⌜ r ≡ rawShutter n k ⌝ }
 {
     Shutter {
-        present: flag_at(body, at),
-        active: number_at(body, at + 2),
-        on_line: number_at(body, at + 4),
-        on_pixel: number_at(body, at + 6),
-        off_line: number_at(body, at + 8),
-        off_pixel: number_at(body, at + 10),
+        present: n[k] == 1,
+        active: n[k + 1],
+        on_line: n[k + 2],
+        on_pixel: n[k + 3],
+        off_line: n[k + 4],
+        off_pixel: n[k + 5],
     }
 }
 
-fn region_at(body: &[u8], at: usize) -> Region
-    requires { ⌜ at < 900 ⌝ }
-    ensures { λ r. ⌜ r ≡ regionAt (now (body .entry)) at ⌝ }
+fn raw_region(n: [u16; 380], k: usize) -> Region
+    requires { ⌜ k < 378 ⌝ }
+    ensures { λ r. ⌜ r ≡ rawRegion n k ⌝ }
 {
     Region {
-        first: number_at(body, at),
-        sequence: number_at(body, at + 2),
-        mode: mode_of(number_at(body, at + 4)),
+        first: n[k],
+        sequence: n[k + 1],
+        mode: mode_of(n[k + 2]),
     }
 }
 
@@ -177,83 +170,79 @@ fn raw_registers(body: &[u8]) -> [u16; 240]
     registers
 }
 
-fn raw_sequences(body: &[u8]) -> [Sequence; 10]
-    ensures { λ r. ⌜ r ≡ rawSequences (now (body .entry)) ⌝ }
+fn number_room() -> [u16; 380]
+    ensures { λ r. ⌜ 380 ≡ length r ⌝ }
+{
+    [0; 380]
+}
+
+fn raw_numbers(body: &[u8]) -> [u16; 380]
+    ensures { λ r. ⌜ r ≡ rawNumbers (now (body .entry)) ⌝ }
+{
+    let mut numbers = number_room();
+    fill_numbers(&mut numbers, body, 0);
+    numbers
+}
+
+fn raw_sequences(n: [u16; 380]) -> [Sequence; 10]
+    ensures { λ r. ⌜ r ≡ rawSequences n ⌝ }
 {
     [
-        sequence_at(body, 480),
-        sequence_at(body, 494),
-        sequence_at(body, 508),
-        sequence_at(body, 522),
-        sequence_at(body, 536),
-        sequence_at(body, 550),
-        sequence_at(body, 564),
-        sequence_at(body, 578),
-        sequence_at(body, 592),
-        sequence_at(body, 606),
+        raw_sequence(n, 240),
+        raw_sequence(n, 247),
+        raw_sequence(n, 254),
+        raw_sequence(n, 261),
+        raw_sequence(n, 268),
+        raw_sequence(n, 275),
+        raw_sequence(n, 282),
+        raw_sequence(n, 289),
+        raw_sequence(n, 296),
+        raw_sequence(n, 303),
     ]
 }
 
-fn raw_gates(body: &[u8]) -> [Gate; 5]
-    ensures { λ r. ⌜ r ≡ rawGates (now (body .entry)) ⌝ }
+fn raw_gates(n: [u16; 380]) -> [Gate; 5]
+    ensures { λ r. ⌜ r ≡ rawGates n ⌝ }
 {
     [
-        gate_at(body, 620),
-        gate_at(body, 630),
-        gate_at(body, 640),
-        gate_at(body, 650),
-        gate_at(body, 660),
+        raw_gate(n, 310),
+        raw_gate(n, 315),
+        raw_gate(n, 320),
+        raw_gate(n, 325),
+        raw_gate(n, 330),
     ]
 }
 
-fn raw_shutters(body: &[u8]) -> [Shutter; 2]
-    ensures { λ r. ⌜ r ≡ rawShutters (now (body .entry)) ⌝ }
+fn raw_shutters(n: [u16; 380]) -> [Shutter; 2]
+    ensures { λ r. ⌜ r ≡ rawShutters n ⌝ }
 {
-    [shutter_at(body, 682), shutter_at(body, 694)]
+    [raw_shutter(n, 341), raw_shutter(n, 347)]
 }
 
-fn raw_tables(body: &[u8]) -> Tables
-    ensures { λ r. ⌜ r ≡ rawTables (now (body .entry)) ⌝ }
-{
-    let registers = raw_registers(body);
-    let sequences = raw_sequences(body);
-    let gates = raw_gates(body);
-    let subck = subck_at(body, 670);
-    let shutters = raw_shutters(body);
-    Tables {
-        registers: registers,
-        sequences: sequences,
-        gates: gates,
-        subck: subck,
-        shutters: shutters,
-    }
-}
-
-fn raw_regions(body: &[u8]) -> [Region; 7]
-    ensures { λ r. ⌜ r ≡ rawRegions (now (body .entry)) ⌝ }
+fn raw_regions(n: [u16; 380]) -> [Region; 7]
+    ensures { λ r. ⌜ r ≡ rawRegions n ⌝ }
 {
     [
-        region_at(body, 718),
-        region_at(body, 724),
-        region_at(body, 730),
-        region_at(body, 736),
-        region_at(body, 742),
-        region_at(body, 748),
-        region_at(body, 754),
+        raw_region(n, 359),
+        raw_region(n, 362),
+        raw_region(n, 365),
+        raw_region(n, 368),
+        raw_region(n, 371),
+        raw_region(n, 374),
+        raw_region(n, 377),
     ]
 }
 
-fn raw_field(body: &[u8]) -> Field
-    ensures { λ r. ⌜ r ≡ rawField (now (body .entry)) ⌝ }
+fn raw_field(n: [u16; 380], regions: [Region; 7]) -> Field
+    ensures { λ r. ⌜ r ≡ fieldWith n regions ⌝ }
 {
-    let regions = raw_regions(body);
     Field {
-        present: flag_at(body, 706),
-        lines: number_at(body, 708),
-        last: number_at(body, 710),
-        gate: number_at(body, 712),
-        second: number_at(body, 714),
-        count: number_at(body, 716),
+        present: n[353] == 1,
+        lines: n[354],
+        last: n[355],
+        gate: n[356],
+        second: n[357],
+        count: n[358],
         regions: regions,
     }
 }
@@ -261,8 +250,21 @@ fn raw_field(body: &[u8]) -> Field
 pub(crate) fn raw_profile(body: &[u8]) -> Profile
     ensures { λ r. ⌜ r ≡ rawProfile (now (body .entry)) ⌝ }
 {
-    let tables = raw_tables(body);
-    let field = raw_field(body);
+    let registers = raw_registers(body);
+    let n = raw_numbers(body);
+    let sequences = raw_sequences(n);
+    let gates = raw_gates(n);
+    let subck = raw_subck(n, 335);
+    let shutters = raw_shutters(n);
+    let regions = raw_regions(n);
+    let field = raw_field(n, regions);
+    let tables = Tables {
+        registers: registers,
+        sequences: sequences,
+        gates: gates,
+        subck: subck,
+        shutters: shutters,
+    };
     Profile {
         tables: tables,
         field: field,
@@ -293,10 +295,8 @@ fn all_below(body: &[u8], at: usize, step: usize, n: usize, limit: u16) -> bool
 pub(crate) fn is_raw(body: &[u8]) -> bool
     ensures { λ r. ⌜ r ≡ isRaw (now (body .entry)) ⌝ }
 {
-    if body.len() < 760 {
-        return false;
-    }
-    all_below(body, 480, 14, 10, 2)
+    (760 <= body.len())
+        & all_below(body, 480, 14, 10, 2)
         & all_below(body, 620, 10, 5, 2)
         & all_below(body, 670, 12, 4, 2)
         & all_below(body, 722, 6, 7, 3)

@@ -1,6 +1,6 @@
 // The text of the answers, put into a lent slice from a place on. What has no room is left out; each function gives the place after what it put.
-use holdlist::put;
 use holdlist::put_byte;
+use holdlist::put_bytes;
 use holdlist::put_decimal;
 use holdlist::put_hex2;
 use profile::Field;
@@ -13,9 +13,8 @@ use profile::Subck;
 use profile::Tables;
 use profile::Verdict;
 use profile::mode_number;
-ghost use mathlib.Core.Path.{_≡_};
 ghost use Rattle.holdlist.specs.Text.{Puts};
-ghost use Rattle.cases.specs.Answer.{flagNumber, next, after, afters, joined, joinedLine, hexOf, hexLine, sequenceNumbers, gateNumbers, subckNumbers, shutterNumbers, regionNumbers, sequencesText, gatesText, regionsText, fieldText, tablesText, profileLine, headText, caseLine};
+ghost use Rattle.cases.specs.Answer.{numberText, after, numbersText, afters, joinedLine, hexLine, sequenceNumbers, gateNumbers, subckNumbers, shutterNumbers, regionNumbers, sequencesText, gatesText, regionsText, fieldText, tablesText, profileLine, headText, caseLine};
 
 // ---- numbers of a line
 
@@ -27,72 +26,52 @@ pub(crate) fn put_after(out: &mut [u8], at: usize, n: u64) -> usize
     put_decimal(out, a, n)
 }
 
-// Number i of a line.
-fn put_next(out: &mut [u8], at: usize, i: usize, n: u64) -> usize
-    ensures { λ r. ⌜ Puts (next i n) (now (out .entry)) at r (now (out .exit)) ⌝ }
+// A number that may stand at the front of a line.
+fn put_number(out: &mut [u8], at: usize, front: bool, n: u64) -> usize
+    ensures { λ r. ⌜ Puts (numberText front n) (now (out .entry)) at r (now (out .exit)) ⌝ }
 {
-    if i == 0 {
+    if front {
         return put_decimal(out, at, n);
     }
     put_after(out, at, n)
 }
 
-// Numbers after another.
-fn put_afters(out: &mut [u8], at: usize, numbers: &[u16]) -> usize
-    ensures { λ r. ⌜ Puts (afters (now (numbers .entry))) (now (out .entry)) at r (now (out .exit)) ⌝ }
+// Numbers, of which the first may stand at the front of a line.
+fn put_numbers(out: &mut [u8], at: usize, front: bool, numbers: &[u16]) -> usize
+    ensures { λ r. ⌜ Puts (numbersText front (now (numbers .entry))) (now (out .entry)) at r (now (out .exit)) ⌝ }
 {
     let mut to = at;
     let mut i: usize = 0;
     while i < numbers.len() {
-        to = put_after(out, to, numbers[i] as u64);
+        to = put_number(out, to, front & (i == 0), numbers[i] as u64);
         i += 1;
     }
     to
 }
 
-// The numbers at the front of a line.
-fn put_joined(out: &mut [u8], at: usize, numbers: &[u16]) -> usize
-    ensures { λ r. ⌜ Puts (joined (now (numbers .entry))) (now (out .entry)) at r (now (out .exit)) ⌝ }
-{
-    let mut to = at;
-    let mut i: usize = 0;
-    while i < numbers.len() {
-        to = put_next(out, to, i, numbers[i] as u64);
-        i += 1;
-    }
-    to
-}
-
-fn put_joined_counts(out: &mut [u8], at: usize, counts: &[u32]) -> usize
-    ensures { λ r. ⌜ Puts (joined (now (counts .entry))) (now (out .entry)) at r (now (out .exit)) ⌝ }
-{
-    let mut to = at;
-    let mut i: usize = 0;
-    while i < counts.len() {
-        to = put_next(out, to, i, counts[i] as u64);
-        i += 1;
-    }
-    to
-}
-
+// A line of numbers.
 pub(crate) fn put_words(out: &mut [u8], at: usize, words: &[u16]) -> usize
     ensures { λ r. ⌜ Puts (joinedLine (now (words .entry))) (now (out .entry)) at r (now (out .exit)) ⌝ }
 {
-    let a = put_joined(out, at, words);
+    let a = put_numbers(out, at, true, words);
     put_byte(out, a, 10)
 }
 
 pub(crate) fn put_counts(out: &mut [u8], at: usize, counts: &[u32]) -> usize
     ensures { λ r. ⌜ Puts (joinedLine (now (counts .entry))) (now (out .entry)) at r (now (out .exit)) ⌝ }
 {
-    let a = put_joined_counts(out, at, counts);
-    put_byte(out, a, 10)
+    let mut to = at;
+    let mut i: usize = 0;
+    while i < counts.len() {
+        to = put_number(out, to, i == 0, counts[i] as u64);
+        i += 1;
+    }
+    put_byte(out, to, 10)
 }
 
-// ---- bytes in hex
-
-fn put_hex(out: &mut [u8], at: usize, bytes: &[u8]) -> usize
-    ensures { λ r. ⌜ Puts (hexOf (now (bytes .entry))) (now (out .entry)) at r (now (out .exit)) ⌝ }
+// A line of bytes in hex.
+pub(crate) fn put_hex_line(out: &mut [u8], at: usize, bytes: &[u8]) -> usize
+    ensures { λ r. ⌜ Puts (hexLine (now (bytes .entry))) (now (out .entry)) at r (now (out .exit)) ⌝ }
 {
     let mut to = at;
     let mut i: usize = 0;
@@ -100,29 +79,16 @@ fn put_hex(out: &mut [u8], at: usize, bytes: &[u8]) -> usize
         to = put_hex2(out, to, bytes[i]);
         i += 1;
     }
-    to
-}
-
-pub(crate) fn put_hex_line(out: &mut [u8], at: usize, bytes: &[u8]) -> usize
-    ensures { λ r. ⌜ Puts (hexLine (now (bytes .entry))) (now (out .entry)) at r (now (out .exit)) ⌝ }
-{
-    let a = put_hex(out, at, bytes);
-    put_byte(out, a, 10)
+    put_byte(out, to, 10)
 }
 
 // ---- a profile as its 380 numbers
-
-fn flag_number(flag: bool) -> u16
-    ensures { λ r. ⌜ r ≡ flagNumber flag ⌝ }
-{
-    if flag { 1 } else { 0 }
-}
 
 fn put_sequence(out: &mut [u8], at: usize, s: Sequence) -> usize
     ensures { λ r. ⌜ Puts (afters (sequenceNumbers s)) (now (out .entry)) at r (now (out .exit)) ⌝ }
 {
     let numbers = [
-        flag_number(s.present),
+        s.present as u16,
         s.pattern,
         s.length,
         s.start,
@@ -130,7 +96,7 @@ fn put_sequence(out: &mut [u8], at: usize, s: Sequence) -> usize
         s.even,
         s.mask,
     ];
-    put_afters(out, at, &numbers)
+    put_numbers(out, at, false, &numbers)
 }
 
 fn put_sequences(out: &mut [u8], at: usize, sequences: [Sequence; 10]) -> usize
@@ -149,8 +115,8 @@ fn put_sequences(out: &mut [u8], at: usize, sequences: [Sequence; 10]) -> usize
 fn put_gate(out: &mut [u8], at: usize, g: Gate) -> usize
     ensures { λ r. ⌜ Puts (afters (gateNumbers g)) (now (out .entry)) at r (now (out .exit)) ⌝ }
 {
-    let numbers = [flag_number(g.present), g.on, g.level, g.toggle1, g.toggle2];
-    put_afters(out, at, &numbers)
+    let numbers = [g.present as u16, g.on, g.level, g.toggle1, g.toggle2];
+    put_numbers(out, at, false, &numbers)
 }
 
 fn put_gates(out: &mut [u8], at: usize, gates: [Gate; 5]) -> usize
@@ -170,28 +136,28 @@ fn put_subck(out: &mut [u8], at: usize, s: Subck) -> usize
     ensures { λ r. ⌜ Puts (afters (subckNumbers s)) (now (out .entry)) at r (now (out .exit)) ⌝ }
 {
     let numbers = [
-        flag_number(s.present),
+        s.present as u16,
         s.level,
         s.toggle1,
         s.toggle2,
         s.suppressed,
         s.count,
     ];
-    put_afters(out, at, &numbers)
+    put_numbers(out, at, false, &numbers)
 }
 
 fn put_shutter(out: &mut [u8], at: usize, s: Shutter) -> usize
     ensures { λ r. ⌜ Puts (afters (shutterNumbers s)) (now (out .entry)) at r (now (out .exit)) ⌝ }
 {
     let numbers = [
-        flag_number(s.present),
+        s.present as u16,
         s.active,
         s.on_line,
         s.on_pixel,
         s.off_line,
         s.off_pixel,
     ];
-    put_afters(out, at, &numbers)
+    put_numbers(out, at, false, &numbers)
 }
 
 fn put_tables(out: &mut [u8], at: usize, tables: Tables) -> usize
@@ -202,7 +168,7 @@ fn put_tables(out: &mut [u8], at: usize, tables: Tables) -> usize
     let gates = tables.gates;
     let subck = tables.subck;
     let shutters = tables.shutters;
-    let a = put_joined(out, at, &registers);
+    let a = put_numbers(out, at, true, &registers);
     let b = put_sequences(out, a, sequences);
     let c = put_gates(out, b, gates);
     let d = put_subck(out, c, subck);
@@ -217,7 +183,7 @@ fn put_region(out: &mut [u8], at: usize, region: Region) -> usize
 {
     let mode = region.mode;
     let numbers = [region.first, region.sequence, mode_number(mode)];
-    put_afters(out, at, &numbers)
+    put_numbers(out, at, false, &numbers)
 }
 
 fn put_regions(out: &mut [u8], at: usize, regions: [Region; 7]) -> usize
@@ -236,15 +202,8 @@ fn put_regions(out: &mut [u8], at: usize, regions: [Region; 7]) -> usize
 fn put_field(out: &mut [u8], at: usize, f: Field) -> usize
     ensures { λ r. ⌜ Puts (fieldText f) (now (out .entry)) at r (now (out .exit)) ⌝ }
 {
-    let numbers = [
-        flag_number(f.present),
-        f.lines,
-        f.last,
-        f.gate,
-        f.second,
-        f.count,
-    ];
-    let a = put_afters(out, at, &numbers);
+    let numbers = [f.present as u16, f.lines, f.last, f.gate, f.second, f.count];
+    let a = put_numbers(out, at, false, &numbers);
     let regions = f.regions;
     put_regions(out, a, regions)
 }
@@ -273,9 +232,8 @@ pub(crate) fn put_verdict(out: &mut [u8], at: usize, verdict: Verdict) -> usize
 pub(crate) fn put_case_line(out: &mut [u8], k: u64, kind: u8) -> usize
     ensures { λ r. ⌜ Puts (caseLine k kind) (now (out .entry)) 0 r (now (out .exit)) ⌝ }
 {
-    let a = put(out, 0, b"CASE");
+    let a = put_bytes(out, 0, b"CASE");
     let b = put_after(out, a, k);
-    let c = put_byte(out, b, 32);
-    let d = put_byte(out, c, kind);
-    put_byte(out, d, 10)
+    let rest = [32, kind, 10];
+    put_bytes(out, b, &rest)
 }

@@ -3,57 +3,33 @@
 -- Assumes nothing.
 use Prim.Native.Nat.{ℕ, _+_, _*_, _/_, _%_, _^_}
 use mathlib.Core.Path.{_≡_, refl}
-use mathlib.Core.List.{List, [], _∷_, _++_, map}
+use mathlib.Core.List.{List, [], _∷_, _++_, map, flatMap}
 use lib.ListN.{replicate}
-use Rattle.profile.specs.Lists.{all, chunks, sum, lastStart}
+use Rattle.profile.specs.Lists
+use Rattle.profile.specs.Lists.{chunks}
 use Rattle.profile.specs.Bytes.{twoBytes, threeBytes}
-use Rattle.profile.specs.Values.{emptyField, emptyTables}
-use Rattle.profile.specs.Patterns.{patternOf, toggleFault, highestUsed}
-use Rattle.profile.specs.Geometry.{endLine, regionOf, lengthIn, lineLength, regionPixels, pixelsBefore, pixelCount, hasPixel}
-use Rattle.profile.specs.Ranges.{sequenceIn, regionIn, fieldIn, gateIn, subckIn, shutterIn, inRange}
-use Rattle.profile.specs.Rules.{
-  firstBroken,
-  startsRight,
-  togglesRight,
-  pairsRight,
-  maskRight,
-  countsRight,
-  endsRight,
-  secondRight,
-  gateRight,
-  subckRight,
-  shutterRight,
-  entriesAt,
-  lineEntries,
-  rulesOf,
-  judge,
-  checkProfile,
-}
-use Rattle.profile.specs.Script.{
-  registerFits,
-  sequenceFits,
-  fieldFrom,
-  fieldFits,
-  gateFits,
-  subckFits,
-  shutterFits,
-  allowed,
-  fits,
-  put,
-  step,
-  records,
-  readScript,
-}
-use Rattle.profile.specs.Writing.{writeScript, writeAnswer}
+use Rattle.profile.specs.Values
+use Rattle.profile.specs.Patterns
+use Rattle.profile.specs.Geometry
+use Rattle.profile.specs.Ranges
+use Rattle.profile.specs.Rules
+use Rattle.profile.specs.Script
+use Rattle.profile.specs.Script.{readScript}
+use Rattle.profile.specs.Writing
+use Rattle.profile.specs.Writing.{writeAnswer}
 use Rattle.profile.specs.declared.Profile.{Profile}
 use Rattle.profile.specs.declared.Verdict.{Verdict}
-use Rattle.level.specs.Line.{lineWith, noLine, lineOf}
-use Rattle.level.specs.Word.{vWord, gateWord, wordOf}
-use Rattle.level.specs.Fieldwords.{lineWords, fieldWords}
+use Rattle.level.specs.Line
+use Rattle.level.specs.Word
+use Rattle.level.specs.Fieldwords
+use Rattle.level.specs.Fieldwords.{fieldWords}
+use Rattle.level.specs.Place
 use Rattle.level.specs.Place.{levelAnswer}
-use Rattle.holdlist.specs.Runs.{flush, pushed, shut, opened, closed, runs}
-use Rattle.holdlist.specs.Compile.{roomOf, holdVerdict, holdAnswer, holdCounts, holdWords, compileAnswer, compileCounts, compileWords}
-use Rattle.holdlist.specs.Text.{leadingIn, leading, decimal, headLine, stepLine, listing, told, printedOf, printed}
+use Rattle.holdlist.specs.Runs
+use Rattle.holdlist.specs.Compile
+use Rattle.holdlist.specs.Compile.{roomOf, compileAnswer, compileCounts, compileWords}
+use Rattle.holdlist.specs.Text
+use Rattle.holdlist.specs.Text.{printed}
 
 -- ---- what can be asked of a script
 
@@ -223,5 +199,23 @@ table =
     ∷ []
 
 pub cases : map (λ (c : Case). ask (c .script) (c .question)) table ≡ map (λ (c : Case). c .answer) table
-unfolding ask table writeScript writeAnswer leadingIn leading decimal headLine stepLine listing told printedOf printed all chunks sum lastStart emptyField emptyTables patternOf toggleFault highestUsed endLine regionOf lengthIn lineLength regionPixels pixelsBefore pixelCount hasPixel sequenceIn regionIn fieldIn gateIn subckIn shutterIn inRange firstBroken startsRight togglesRight pairsRight maskRight countsRight endsRight secondRight gateRight subckRight shutterRight entriesAt lineEntries rulesOf judge checkProfile registerFits sequenceFits fieldFrom fieldFits gateFits subckFits shutterFits allowed fits put step records readScript lineWith noLine lineOf vWord gateWord wordOf lineWords fieldWords levelAnswer flush pushed shut opened closed runs holdVerdict holdAnswer holdCounts holdWords compileAnswer compileCounts compileWords
+unfolding ask table flatMap
+    Lists.all Lists.chunks Lists.sum Lists.lastStart
+    Values.emptyField Values.emptyTables
+    Patterns.patternOf Patterns.toggleFault Patterns.highestUsed
+    Geometry.endLine Geometry.regionOf Geometry.lengthIn Geometry.lineLength Geometry.regionPixels Geometry.pixelsBefore Geometry.pixelCount
+    Geometry.hasPixel
+    Ranges.sequenceIn Ranges.regionIn Ranges.headIn Ranges.gateIn Ranges.subckIn Ranges.shutterIn Ranges.inRange
+    Rules.firstBroken Rules.startsRight Rules.rowRight Rules.pairsRight Rules.maskRight Rules.countsRight Rules.endsRight Rules.secondRight
+    Rules.gateRight Rules.subckRight Rules.shutterRight Rules.entriesAt Rules.lineEntries Rules.rulesOf Rules.entriesOf Rules.judge Rules.checkProfile
+    Script.registerFits Script.sequenceFits Script.fieldFrom Script.fieldFits Script.gateFits Script.subckFits Script.shutterFits Script.allowed
+    Script.fits Script.withRecord Script.step Script.records Script.readScript
+    Writing.writeScript Writing.writeAnswer
+    Line.lineWith Line.noLine Line.lineOf
+    Word.vWord Word.gateWord Word.wordOf
+    Fieldwords.lineWords Fieldwords.fieldWords
+    Place.levelAnswer
+    Runs.flush Runs.pushed Runs.shut Runs.opened Runs.closed Runs.runs
+    Compile.holdVerdict Compile.holdAnswer Compile.holdCounts Compile.holdWords Compile.compileAnswer Compile.compileCounts Compile.compileWords
+    Text.leadingIn Text.leading Text.decimal Text.headLine Text.stepLine Text.listing Text.printedAnswer Text.printedOf Text.printed
 cases = refl

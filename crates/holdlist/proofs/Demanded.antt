@@ -1,5 +1,5 @@
 -- Demand 3 of any list of words: the list that is left is the runs of the words, which is the shortest that plays them, and what is answered
--- is told by its tests, case by case. A field's words are one such list, so compiling meets it for every accepted profile; and to play them is
+-- is shown by its tests, case by case. A field's words are one such list, so compiling meets it for every accepted profile; and to play them is
 -- to show each line's pixels.
 -- Assumes nothing.
 use Prim.Native.Nat.{ℕ, _≤_, _<_, _^_}
@@ -27,8 +27,8 @@ use Rattle.level.specs.Word.{wordOf}
 use Rattle.level.specs.Place.{placeOf}
 use Rattle.level.specs.Fieldwords.{fieldWords}
 use Rattle.holdlist.specs.declared.Compiled.{Compiled}
-use Rattle.holdlist.specs.Play.{playAnswer, shown, notShown}
-use Rattle.holdlist.specs.Runs.{runs, countsOf, wordsOf}
+use Rattle.holdlist.specs.Play.{playAnswer, playedWord, playedNothing}
+use Rattle.holdlist.specs.Runs.{runs, stepCounts, stepWords}
 use Rattle.holdlist.specs.Compile.{
   roomOf,
   holdVerdict,
@@ -44,7 +44,7 @@ use Rattle.holdlist.specs.Compile.{
 use Rattle.holdlist.specs.Demand.{Plays, PlaysField, Fewest, Demand}
 use Rattle.holdlist.proofs.Runs.{over-rest, runs-fit}
 use Rattle.holdlist.proofs.Shortest.{ends-after, no-fewer, counts-many, words-many, encoded, encoded-whole}
-use Rattle.holdlist.proofs.FieldLoops.{few-pixels}
+use Rattle.holdlist.proofs.FieldLoops.{accepted-fillable, few-pixels}
 
 -- ---- what is answered and left, by cases
 
@@ -63,9 +63,14 @@ abbrev pub Holds : (xs cs ws : List ℕ) (r : Compiled) (cs′ ws′ : List ℕ)
 Holds xs cs ws r cs′ ws′ =
     (r ≡ holdAnswer xs (roomOf cs ws)) × (cs′ ≡ holdCounts xs (roomOf cs ws) cs) × (ws′ ≡ holdWords xs (roomOf cs ws) ws)
 
-abbrev pub Compiles : (p : Profile) (cs ws : List ℕ) (r : Compiled) (cs′ ws′ : List ℕ) → Type 0
-Compiles p cs ws r cs′ ws′ =
+abbrev pub Leaves : (p : Profile) (cs ws : List ℕ) (r : Compiled) (cs′ ws′ : List ℕ) → Type 0
+Leaves p cs ws r cs′ ws′ =
     (r ≡ compileAnswer p (roomOf cs ws)) × (cs′ ≡ compileCounts p (roomOf cs ws) cs) × (ws′ ≡ compileWords p (roomOf cs ws) ws)
+
+-- a claim of an answer and two lists holds of the same answer and lists
+pub same-claim :
+    (P : Compiled → List ℕ → List ℕ → Type 0) {r s : Compiled} {a b c d : List ℕ} → (r ≡ s) × (a ≡ c) × (b ≡ d) → P r a b → P s c d
+same-claim P e x = rw (← e .0, ← e .1, ← e .2) x
 
 module _ (xs cs ws : List ℕ) where
   pub hold-short : roomOf cs ws < length (runs xs) → Holds xs cs ws (noRoom xs) cs ws
@@ -73,7 +78,7 @@ module _ (xs cs ws : List ℕ) where
   hold-short h = let e = lt-leb (length (runs xs)) (roomOf cs ws) h in (rw e, rw e, rw e)
 
   pub hold-fits :
-      length (runs xs) ≤ roomOf cs ws → Holds xs cs ws (held xs) (over (countsOf (runs xs)) cs) (over (wordsOf (runs xs)) ws)
+      length (runs xs) ≤ roomOf cs ws → Holds xs cs ws (held xs) (over (stepCounts (runs xs)) cs) (over (stepWords (runs xs)) ws)
   unfolding holdVerdict holdAnswer holdCounts holdWords
   hold-fits h = let e = le-leb (length (runs xs)) (roomOf cs ws) h in (rw e, rw e, rw e)
 
@@ -81,53 +86,48 @@ module _ (xs cs ws : List ℕ) where
   pub hold-cases :
       (P : Compiled → List ℕ → List ℕ → Type 0) →
       (roomOf cs ws < length (runs xs) → P (noRoom xs) cs ws) →
-      (length (runs xs) ≤ roomOf cs ws → P (held xs) (over (countsOf (runs xs)) cs) (over (wordsOf (runs xs)) ws)) →
+      (length (runs xs) ≤ roomOf cs ws → P (held xs) (over (stepCounts (runs xs)) cs) (over (stepWords (runs xs)) ws)) →
       P (holdAnswer xs (roomOf cs ws)) (holdCounts xs (roomOf cs ws) cs) (holdWords xs (roomOf cs ws) ws)
   hold-cases P short fits =
       by-cases (leb (length (runs xs)) (roomOf cs ws))
-      (λ e.
-      let h = leb-true (length (runs xs)) (roomOf cs ws) e in
-      let c = hold-fits h in
-      rw (← c .0, ← c .1, ← c .2) (fits h))
-      (λ e.
-      let h = leb-false (length (runs xs)) (roomOf cs ws) e in
-      let c = hold-short h in
-      rw (← c .0, ← c .1, ← c .2) (short h))
+      (λ e. let h = leb-true (length (runs xs)) (roomOf cs ws) e in same-claim P (hold-fits h) (fits h))
+      (λ e. let h = leb-false (length (runs xs)) (roomOf cs ws) e in same-claim P (hold-short h) (short h))
 
 module _ (p : Profile) (cs ws : List ℕ) where
   -- the check's refusal
-  pub compile-refused : accepts (checkProfile p) ≡ false → Compiles p cs ws (unheld (checkProfile p)) cs ws
+  pub compile-refused : accepts (checkProfile p) ≡ false → Leaves p cs ws (unheld (checkProfile p)) cs ws
   unfolding compileAnswer compileCounts compileWords
   compile-refused e = (rw e, rw e, rw e)
 
   module _ (ok : accepts (checkProfile p) ≡ true) where
     compile-held :
-        Compiles p cs ws (holdAnswer (profileWords p) (roomOf cs ws)) (holdCounts (profileWords p) (roomOf cs ws) cs)
+        Leaves p cs ws (holdAnswer (profileWords p) (roomOf cs ws)) (holdCounts (profileWords p) (roomOf cs ws) cs)
         (holdWords (profileWords p) (roomOf cs ws) ws)
     unfolding compileAnswer compileCounts compileWords
     compile-held = (rw ok, rw ok, rw ok)
 
-    pub compile-short : roomOf cs ws < length (fieldRuns p) → Compiles p cs ws (noRoom (profileWords p)) cs ws
-    compile-short h = let c = compile-held in rw (← c .0, ← c .1, ← c .2) (hold-short (profileWords p) cs ws h)
+    compile-so : {r : Compiled} {cs′ ws′ : List ℕ} → Holds (profileWords p) cs ws r cs′ ws′ → Leaves p cs ws r cs′ ws′
+    compile-so {r} {cs′} {ws′} h = same-claim (λ s a b. (r ≡ s) × (cs′ ≡ a) × (ws′ ≡ b)) compile-held h
+
+    pub compile-short : roomOf cs ws < length (fieldRuns p) → Leaves p cs ws (noRoom (profileWords p)) cs ws
+    compile-short h = compile-so (hold-short (profileWords p) cs ws h)
 
     pub compile-fits :
         length (fieldRuns p) ≤ roomOf cs ws →
-        Compiles p cs ws (held (profileWords p)) (over (countsOf (fieldRuns p)) cs) (over (wordsOf (fieldRuns p)) ws)
-    compile-fits h = let c = compile-held in rw (← c .0, ← c .1, ← c .2) (hold-fits (profileWords p) cs ws h)
+        Leaves p cs ws (held (profileWords p)) (over (stepCounts (fieldRuns p)) cs) (over (stepWords (fieldRuns p)) ws)
+    compile-fits h = compile-so (hold-fits (profileWords p) cs ws h)
 
   pub compile-cases :
       (P : Compiled → List ℕ → List ℕ → Type 0) →
       (accepts (checkProfile p) ≡ false → P (unheld (checkProfile p)) cs ws) →
       (accepts (checkProfile p) ≡ true → roomOf cs ws < length (fieldRuns p) → P (noRoom (profileWords p)) cs ws) →
       (accepts (checkProfile p) ≡ true → length (fieldRuns p) ≤ roomOf cs ws →
-      P (held (profileWords p)) (over (countsOf (fieldRuns p)) cs) (over (wordsOf (fieldRuns p)) ws)) →
+      P (held (profileWords p)) (over (stepCounts (fieldRuns p)) cs) (over (stepWords (fieldRuns p)) ws)) →
       P (compileAnswer p (roomOf cs ws)) (compileCounts p (roomOf cs ws) cs) (compileWords p (roomOf cs ws) ws)
   compile-cases P wrong short fits =
       by-cases (accepts (checkProfile p))
-      (λ ok.
-      let c = compile-held ok in
-      rw (← c .0, ← c .1, ← c .2) (hold-cases (profileWords p) cs ws P (short ok) (fits ok)))
-      (λ e. let c = compile-refused e in rw (← c .0, ← c .1, ← c .2) (wrong e))
+      (λ ok. same-claim P (compile-held ok) (hold-cases (profileWords p) cs ws P (short ok) (fits ok)))
+      (λ e. same-claim P (compile-refused e) (wrong e))
 
 -- ---- the runs are the fewest
 
@@ -138,8 +138,8 @@ pub fewest-there : (xs : List ℕ) → length xs < 2 ^ 32 → ((i : ℕ) → get
 fewest-there xs few small =
     let fit = runs-fit xs few small in
     record {
-      counts = countsOf (runs xs);
-      words = wordsOf (runs xs);
+      counts = stepCounts (runs xs);
+      words = stepWords (runs xs);
       counts-length = counts-many xs;
       words-length = words-many xs;
       counts-fit = fit .0;
@@ -178,14 +178,14 @@ hold-meets xs cs ws few small =
       accepts = λ k m. ((λ e. omega (arith, fewest-steps xs k m)), λ l. refl);
       needs = λ e. absurd (omega arith);
       keeps = λ e. absurd (e refl);
-      rest = λ e. (over-rest (countsOf (runs xs)) cs _ (counts-many xs), over-rest (wordsOf (runs xs)) ws _ (words-many xs));
+      rest = λ e. (over-rest (stepCounts (runs xs)) cs _ (counts-many xs), over-rest (stepWords (runs xs)) ws _ (words-many xs));
     })
 
 -- to ask at the positions below any limit above the length, as code does below 2 ^ 64, is to ask at all: after a 19 every position is 19
 pub plays-asked :
     (xs cs ws : List ℕ) (used limit : ℕ) → length xs < limit →
-    ((n : ℕ) → n < length xs → playAnswer cs ws used n ≡ shown (getD xs n 0)) →
-    ((n : ℕ) → length xs ≤ n → n < limit → playAnswer cs ws used n ≡ notShown 19) → Plays xs cs ws used
+    ((n : ℕ) → n < length xs → playAnswer cs ws used n ≡ playedWord (getD xs n 0)) →
+    ((n : ℕ) → length xs ≤ n → n < limit → playAnswer cs ws used n ≡ playedNothing 19) → Plays xs cs ws used
 plays-asked xs cs ws used limit h shows ends =
     record { shows = shows; ends = ends-after cs ws used (length xs) (ends (length xs) (omega arith) h) }
 
@@ -199,10 +199,10 @@ module _ (t : Tables) (f : Field) where
     pub plays-field : Plays (fieldWords t f) cs ws used ↔ PlaysField t f cs ws used
     plays-field =
         let l = field-words-length t f in (
-          (λ p. record { shows = λ n h. p .shows n (rw l h) ∙ ap shown (field-word t f n h); ends = λ n h. p .ends n (rw l h) }),
+          (λ p. record { shows = λ n h. p .shows n (rw l h) ∙ ap playedWord (field-word t f n h); ends = λ n h. p .ends n (rw l h) }),
           λ q.
               record {
-                shows = λ n h. let k : n < pixelCount t f = rw l at h in q .shows n k ∙ ap shown (sym (field-word t f n k));
+                shows = λ n h. let k : n < pixelCount t f = rw l at h in q .shows n k ∙ ap playedWord (sym (field-word t f n k));
                 ends = λ n h. q .ends n (rw l at h);
               },
         )
@@ -210,27 +210,27 @@ module _ (t : Tables) (f : Field) where
     -- line by line and pixel by pixel
     pub plays-pixel :
         Plays (fieldWords t f) cs ws used → (line pixel : ℕ) → hasPixel t f line pixel ≡ true →
-        playAnswer cs ws used (placeOf t f line pixel) ≡ shown (wordOf (lineOf t f line) pixel)
+        playAnswer cs ws used (placeOf t f line pixel) ≡ playedWord (wordOf (lineOf t f line) pixel)
     plays-pixel p line pixel h =
         p .shows (placeOf t f line pixel) (rw (field-words-length t f) (place-below t f line pixel h))
-        ∙ ap shown (field-word-at t f line pixel (has-line t f line pixel h) (has-pixel t f line pixel h))
+        ∙ ap playedWord (field-word-at t f line pixel (has-line t f line pixel h) (has-pixel t f line pixel h))
 
 -- ---- compiling
 
 pub field-few : (p : Profile) → checkProfile p ≡ accepted → length (profileWords p) < 2 ^ 32
-field-few p e = omega (arith, few-pixels (p .tables) (p .field) e)
+field-few p e = omega (arith, few-pixels (p .tables) (p .field) (accepted-fillable p e))
 
 -- Demand 3, whole: for every accepted profile and any lent lists
 pub demand-3 :
     (p : Profile) (cs ws : List ℕ) → checkProfile p ≡ accepted →
     Demand (profileWords p) cs ws (compileAnswer p (roomOf cs ws)) (compileCounts p (roomOf cs ws) cs) (compileWords p (roomOf cs ws) ws)
 demand-3 p cs ws e =
-    let c = compile-held p cs ws (ap accepts e) in
-    rw (← c .0, ← c .1, ← c .2) (hold-meets (profileWords p) cs ws (field-few p e) (field-small (p .tables) (p .field)))
+    same-claim (Demand (profileWords p) cs ws) (compile-held p cs ws (ap accepts e))
+    (hold-meets (profileWords p) cs ws (field-few p e) (field-small (p .tables) (p .field)))
 
 -- and, of what compile ensures, each line's pixel shows its word
 pub demand-3-pixels :
     (p : Profile) {cs ws : List ℕ} {r : Compiled} {cs′ ws′ : List ℕ} → Demand (profileWords p) cs ws r cs′ ws′ → r .verdict .number ≡ 0 →
     (line pixel : ℕ) → hasPixel (p .tables) (p .field) line pixel ≡ true →
-    playAnswer cs′ ws′ (r .steps) (placeOf (p .tables) (p .field) line pixel) ≡ shown (wordOf (lineOf (p .tables) (p .field) line) pixel)
+    playAnswer cs′ ws′ (r .steps) (placeOf (p .tables) (p .field) line pixel) ≡ playedWord (wordOf (lineOf (p .tables) (p .field) line) pixel)
 demand-3-pixels p d z = plays-pixel (p .tables) (p .field) _ _ _ (d .plays z)

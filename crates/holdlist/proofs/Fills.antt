@@ -1,10 +1,10 @@
--- Laws of `lay`, `Lays` and `Fills`: what two writers do one after the other, the second given only what the first left free; what a word held,
--- a step closed and a writer without room do. By recursion on the lists.
+-- Laws of `overFit`, `Writes` and `Fills`: what two writers do one after the other, the second given only what the first left free, and so what a
+-- loop of writers does; what a word held, a step closed and a writer without room do. By recursion on the lists.
 -- Assumes nothing.
-use Prim.Native.Nat.{ℕ, zero, suc, _+_, _-_, _≤_, _<_, _^_, min}
+use Prim.Native.Nat.{ℕ, zero, suc, _+_, _-_, _*_, _≤_, _<_, _^_, min}
 use native.Mathlib.Omega.{arith}
 use native.Mathlib.Numerals.{add-one}
-use native.Mathlib.Nat.{zero-min, min-zero, suc-min-suc, add-zero, add-suc, add-comm}
+use native.Mathlib.Nat.{zero-min, min-zero, suc-min-suc, add-zero, add-suc}
 use mathlib.Core.Path.{_≡_, refl, sym, ap, _∙_}
 use mathlib.Core.List.{List, [], _∷_, _++_, map, map-append, append-nil, append-assoc}
 use mathlib.Core.Bool.{true}
@@ -13,60 +13,60 @@ use lib.Seq.{length-take-le, take-at, take-all, take-suc}
 use borrow.Author.Tests.{eq-eqb, ne-eqb, eqb-true}
 use borrow.Rule.Slice.PartMut.{midOf, putMid}
 use Rattle.profile.specs.Lists.{chunks, over}
-use Rattle.profile.proofs.Laws.{and-left, and-right, chunks-more, chunk-room}
+use Rattle.profile.proofs.Laws.{and-left, and-right, chunks-none, chunks-more, chunk-room}
 use Rattle.level.specs.declared.Line.{Line}
 use Rattle.level.specs.Fieldwords.{lineWords}
 use Rattle.level.proofs.Words.{line-words-length}
 use Rattle.holdlist.specs.declared.Step.{Step}
-use Rattle.holdlist.specs.Runs.{none, flush, opened, closed, runs, countOf, wordOf, countsOf, wordsOf}
-use Rattle.holdlist.specs.Fills.{lay, Lays, Fills, Alike, same}
-use Rattle.holdlist.proofs.Runs.{opened-append, closed-append, push-other, closed-length, closed-same, opened-same, opened-count, flush-one}
+use Rattle.holdlist.specs.Runs.{none, flush, opened, closed, runs, stepCount, stepWord, stepCounts, stepWords}
+use Rattle.holdlist.specs.Fills.{overFit, Writes, Fills, Alike, same}
+use Rattle.holdlist.proofs.Runs.{step, opened-append, closed-append, run-joins, run-starts, closed-length, opened-count, flush-one}
 
 -- ---- one list over the front of another
 
-pub lay-nil : (a : List ℕ) → lay a [] ≡ []
-unfolding lay
-lay-nil [] = refl
-lay-nil (x ∷ a) = refl
+pub over-fit-nil : (a : List ℕ) → overFit a [] ≡ []
+unfolding overFit
+over-fit-nil [] = refl
+over-fit-nil (x ∷ a) = refl
 
-pub lay-length : (a s : List ℕ) → length (lay a s) ≡ length s
-unfolding lay
-lay-length [] s = refl
-lay-length (x ∷ a) [] = refl
-lay-length (x ∷ a) (y ∷ s) = ap suc (lay-length a s)
+pub over-fit-length : (a s : List ℕ) → length (overFit a s) ≡ length s
+unfolding overFit
+over-fit-length [] s = refl
+over-fit-length (x ∷ a) [] = refl
+over-fit-length (x ∷ a) (y ∷ s) = ap suc (over-fit-length a s)
 
--- one element is laid by a store at the front, where there is a place
-pub lay-one : (s : List ℕ) (x : ℕ) → set s 0 x ≡ lay (x ∷ []) s
-unfolding lay
-lay-one [] x = refl
-lay-one (y ∷ s) x = refl
+-- one element is written by a store at the front, where there is a place
+pub over-fit-one : (s : List ℕ) (x : ℕ) → set s 0 x ≡ overFit (x ∷ []) s
+unfolding overFit
+over-fit-one [] x = refl
+over-fit-one (y ∷ s) x = refl
 
-pub lay-full : (a s : List ℕ) → length s ≤ 0 → s ≡ lay a s
-lay-full a [] h = sym (lay-nil a)
-lay-full a (y ∷ s) h = absurd (omega arith)
+pub over-fit-full : (a s : List ℕ) → length s ≤ 0 → s ≡ overFit a s
+over-fit-full a [] h = sym (over-fit-nil a)
+over-fit-full a (y ∷ s) h = absurd (omega arith)
 
 -- where all of it has a place
-pub lay-fits : (a s : List ℕ) → length a ≤ length s → lay a s ≡ over a s
-unfolding lay
-lay-fits [] s h = refl
-lay-fits (x ∷ a) [] h = absurd (omega arith)
-lay-fits (x ∷ a) (y ∷ s) h = ap {B = List ℕ} (λ r. x ∷ r) (lay-fits a s (omega arith))
+pub over-fit-fits : (a s : List ℕ) → length a ≤ length s → overFit a s ≡ over a s
+unfolding overFit
+over-fit-fits [] s h = refl
+over-fit-fits (x ∷ a) [] h = absurd (omega arith)
+over-fit-fits (x ∷ a) (y ∷ s) h = ap {B = List ℕ} (λ r. x ∷ r) (over-fit-fits a s (omega arith))
 
--- laid in two parts, the second over what the first leaves free
-lay-append : (a b s : List ℕ) → lay (a ++ b) s ≡ take (min (length a) (length s)) (lay a s) ++ lay b (drop (min (length a) (length s)) (lay a s))
-unfolding lay
-lay-append [] b s = rw zero-min
-lay-append (x ∷ a) b [] = rw (min-zero, lay-nil b)
-lay-append (x ∷ a) b (y ∷ s) = rw suc-min-suc (ap {B = List ℕ} (λ r. x ∷ r) (lay-append a b s))
+-- written in two parts, the second over what the first leaves free
+over-fit-append : (a b s : List ℕ) → overFit (a ++ b) s ≡ take (min (length a) (length s)) (overFit a s) ++ overFit b (drop (min (length a) (length s)) (overFit a s))
+unfolding overFit
+over-fit-append [] b s = rw zero-min
+over-fit-append (x ∷ a) b [] = rw (min-zero, over-fit-nil b)
+over-fit-append (x ∷ a) b (y ∷ s) = rw suc-min-suc (ap {B = List ℕ} (λ r. x ∷ r) (over-fit-append a b s))
 
 -- the part from k on, k the place after the steps a or the end, comes back with the steps b laid over it
-lay-part :
+over-fit-part :
     (f : Step → ℕ) (a b : List Step) (s s′ p : List ℕ) (k : ℕ) →
-    s′ ≡ lay (map f a) s → k ≡ min (length a) (length s′) → p ≡ lay (map f b) (drop k s′) →
-    take k s′ ++ p ≡ lay (map f (a ++ b)) s
-lay-part f a b s s′ p k e h q =
-    let l : min (length a) (length s′) ≡ min (length (map f a)) (length s) = rw (e, length-map, lay-length (map f a) s) in
-    rw (q, h, l, e, map-append) (sym (lay-append (map f a) (map f b) s))
+    s′ ≡ overFit (map f a) s → k ≡ min (length a) (length s′) → p ≡ overFit (map f b) (drop k s′) →
+    take k s′ ++ p ≡ overFit (map f (a ++ b)) s
+over-fit-part f a b s s′ p k e h q =
+    let l : min (length a) (length s′) ≡ min (length (map f a)) (length s) = rw (e, length-map, over-fit-length (map f a) s) in
+    rw (q, h, l, e, map-append) (sym (over-fit-append (map f a) (map f b) s))
 
 -- ---- a part that is lent from k on, and what comes back of it, as the borrow checker states them
 
@@ -78,25 +78,29 @@ put-rest k s p = rw (drop-of-length-le (drop k s) {i = length s - k} (omega (ari
 
 -- ---- two writers, the second given what is free after the first
 
-pub lays-more :
+pub writes-more :
     {a b : List Step} {cs ws cs′ ws′ p q : List ℕ} {n m j k : ℕ} →
-    Lays a cs ws n cs′ ws′ → j ≡ min n (length cs′) → k ≡ min n (length ws′) →
-    Lays b (midOf j (length cs′ - j) cs′) (midOf k (length ws′ - k) ws′) m p q →
-    Lays (a ++ b) cs ws (n + m) (putMid j (length cs′ - j) cs′ p) (putMid k (length ws′ - k) ws′ q)
-lays-more {a} {b} {cs} {ws} {cs′} {ws′} {p} {q} {n} {m} {j} {k} x ej ek y =
+    Writes a cs ws n cs′ ws′ → j ≡ min n (length cs′) → k ≡ min n (length ws′) →
+    Writes b (midOf j (length cs′ - j) cs′) (midOf k (length ws′ - k) ws′) m p q →
+    Writes (a ++ b) cs ws (n + m) (putMid j (length cs′ - j) cs′ p) (putMid k (length ws′ - k) ws′ q)
+writes-more {a} {b} {cs} {ws} {cs′} {ws′} {p} {q} {n} {m} {j} {k} x ej ek y =
     record {
-      tells = rw (length-append, ← x .tells, ← y .tells);
-      counted =
+      number = rw (length-append, ← x .number, ← y .number);
+      counts =
           rw (put-rest j cs′ p)
-          (lay-part countOf a b cs cs′ p j (x .counted) (rw (← x .tells) ej) (rw (← mid-rest j cs′) (y .counted)));
-      worded =
+          (over-fit-part stepCount a b cs cs′ p j (x .counts) (rw (← x .number) ej) (rw (← mid-rest j cs′) (y .counts)));
+      words =
           rw (put-rest k ws′ q)
-          (lay-part wordOf a b ws ws′ q k (x .worded) (rw (← x .tells) ek) (rw (← mid-rest k ws′) (y .worded)));
+          (over-fit-part stepWord a b ws ws′ q k (x .words) (rw (← x .number) ek) (rw (← mid-rest k ws′) (y .words)));
     }
 
 pub fills-none : (o : Step) (cs ws : List ℕ) → Fills o [] cs ws 0 o cs ws
-unfolding lay opened closed
-fills-none o cs ws = record { lays = record { tells = refl; counted = refl; worded = refl }; leaves = refl }
+unfolding overFit opened closed
+fills-none o cs ws = record { writes = record { number = refl; counts = refl; words = refl }; leaves = refl }
+
+pub fills-as :
+    {o h : Step} {xs ys cs ws cs′ ws′ : List ℕ} {n : ℕ} → xs ≡ ys → Fills o xs cs ws n h cs′ ws′ → Fills o ys cs ws n h cs′ ws′
+fills-as e f = rw (← e) f
 
 pub fills-more :
     {o h h′ : Step} {xs ys zs cs ws cs′ ws′ p q : List ℕ} {n m j k : ℕ} →
@@ -105,39 +109,31 @@ pub fills-more :
     Fills o zs cs ws (n + m) h′ (putMid j (length cs′ - j) cs′ p) (putMid k (length ws′ - k) ws′ q)
 fills-more {o} {h} {h′} {xs} {ys} x ej ek y e =
     record {
-      lays = rw (e, closed-append o xs ys, ← x .leaves) (lays-more (x .lays) ej ek (y .lays));
+      writes = rw (e, closed-append o xs ys, ← x .leaves) (writes-more (x .writes) ej ek (y .writes));
       leaves = rw (e, opened-append o xs ys, ← x .leaves) (y .leaves);
     }
 
 -- the last step is closed: all the runs are written
-pub lays-runs :
+pub writes-runs :
     {h : Step} {xs cs ws cs′ ws′ p q : List ℕ} {n m j k : ℕ} →
     Fills none xs cs ws n h cs′ ws′ → j ≡ min n (length cs′) → k ≡ min n (length ws′) →
-    Lays (flush h) (midOf j (length cs′ - j) cs′) (midOf k (length ws′ - k) ws′) m p q →
-    Lays (runs xs) cs ws (n + m) (putMid j (length cs′ - j) cs′ p) (putMid k (length ws′ - k) ws′ q)
+    Writes (flush h) (midOf j (length cs′ - j) cs′) (midOf k (length ws′ - k) ws′) m p q →
+    Writes (runs xs) cs ws (n + m) (putMid j (length cs′ - j) cs′ p) (putMid k (length ws′ - k) ws′ q)
 unfolding runs
-lays-runs x ej ek y = rw (← x .leaves) (lays-more (x .lays) ej ek y)
-
--- words made chunk by chunk, the next of them written
-pub fills-chunk :
-    {o h h′ : Step} {ys cs ws cs′ ws′ p q : List ℕ} {n m j k : ℕ} (i : ℕ) (f : ℕ → List ℕ) →
-    Fills o (chunks i f) cs ws n h cs′ ws′ → j ≡ min n (length cs′) → k ≡ min n (length ws′) →
-    Fills h ys (midOf j (length cs′ - j) cs′) (midOf k (length ws′ - k) ws′) m h′ p q → ys ≡ f i →
-    Fills o (chunks (i + 1) f) cs ws (n + m) h′ (putMid j (length cs′ - j) cs′ p) (putMid k (length ws′ - k) ws′ q)
-fills-chunk i f x ej ek y e = fills-more x ej ek y (rw (e, chunks-more i f))
+writes-runs x ej ek y = rw (← x .leaves) (writes-more (x .writes) ej ek y)
 
 -- ---- a writer given no room, and one given enough
 
-pub lays-nowhere : {s : List Step} {n : ℕ} {cs′ ws′ : List ℕ} → Lays s [] [] n cs′ ws′ → (cs′ ≡ []) × (ws′ ≡ [])
-lays-nowhere {s} a = (a .counted ∙ lay-nil (countsOf s), a .worded ∙ lay-nil (wordsOf s))
+pub writes-nowhere : {s : List Step} {n : ℕ} {cs′ ws′ : List ℕ} → Writes s [] [] n cs′ ws′ → (cs′ ≡ []) × (ws′ ≡ [])
+writes-nowhere {s} a = (a .counts ∙ over-fit-nil (stepCounts s), a .words ∙ over-fit-nil (stepWords s))
 
-pub lays-whole :
+pub writes-whole :
     {s : List Step} {cs ws cs′ ws′ : List ℕ} {n : ℕ} →
-    Lays s cs ws n cs′ ws′ → length s ≤ length cs → length s ≤ length ws →
-    (cs′ ≡ over (countsOf s) cs) × (ws′ ≡ over (wordsOf s) ws)
-lays-whole {s} {cs} {ws} a h k = (
-  a .counted ∙ lay-fits (countsOf s) cs (rw (length-map s countOf) h),
-  a .worded ∙ lay-fits (wordsOf s) ws (rw (length-map s wordOf) k),
+    Writes s cs ws n cs′ ws′ → length s ≤ length cs → length s ≤ length ws →
+    (cs′ ≡ over (stepCounts s) cs) × (ws′ ≡ over (stepWords s) ws)
+writes-whole {s} {cs} {ws} a h k = (
+  a .counts ∙ over-fit-fits (stepCounts s) cs (rw (length-map s stepCount) h),
+  a .words ∙ over-fit-fits (stepWords s) ws (rw (length-map s stepWord) k),
 )
 
 -- ---- what the loops want to know besides
@@ -154,65 +150,106 @@ pub filling :
 filling {o} {h} {xs} {cs} {ws} a =
     record {
       fills = a;
-      kept-counts = ap length (a .lays .counted) ∙ lay-length (countsOf (closed o xs)) cs;
-      kept-words = ap length (a .lays .worded) ∙ lay-length (wordsOf (closed o xs)) ws;
-      few = rw (a .lays .tells) (closed-length o xs);
+      kept-counts = ap length (a .writes .counts) ∙ over-fit-length (stepCounts (closed o xs)) cs;
+      kept-words = ap length (a .writes .words) ∙ over-fit-length (stepWords (closed o xs)) ws;
+      few = rw (a .writes .number) (closed-length o xs);
       small = rw (a .leaves) (opened-count o xs);
     }
 
--- where all the chunks can be counted, the next can
-pub chunk-counted :
-    {o h : Step} {cs ws cs′ ws′ : List ℕ} {n : ℕ} (i m : ℕ) (f : ℕ → List ℕ) →
-    Filling o (chunks i f) cs ws n h cs′ ws′ → i < m → o .count + length (chunks m f) < 2 ^ 32 → h .count + length (f i) < 2 ^ 32
-chunk-counted i m f x l b = omega (arith, x .small, chunk-room i m f l)
+-- the runs of a field's words can be counted
+pub runs-few :
+    {h : Step} {xs cs ws cs′ ws′ ps qs ps′ qs′ : List ℕ} {n m : ℕ} →
+    Fills none xs cs ws n h cs′ ws′ → length xs ≤ 16769025 → Writes (flush h) ps qs m ps′ qs′ → n + m < 2 ^ 64
+runs-few {h} x few y = omega (arith, filling x, y .number, flush-one h)
 
-pub flush-few : {cs ws cs′ ws′ : List ℕ} {n : ℕ} (o : Step) → Lays (flush o) cs ws n cs′ ws′ → n ≤ 1
-flush-few o l = rw (l .tells) (flush-one o)
+-- ---- a loop that pushes the words chunk by chunk, each chunk given what is free of both lists after the steps already used
+
+-- after i of n turns; the lists are no longer than memory has room for
+pub record Turns
+    (f : ℕ → List ℕ) (n : ℕ) (o : Step) (cs ws : List ℕ) (i steps : ℕ) (held : Step) (cs′ ws′ : List ℕ) : Type 0 where
+  pub within : i ≤ n
+  pub few : o .count + length (chunks n f) < 2 ^ 32
+  pub done : Filling o (chunks i f) cs ws steps held cs′ ws′
+  pub counts-room : 4 * length cs < 2 ^ 63
+  pub words-room : 2 * length ws < 2 ^ 63
+
+pub turns-start :
+    (f : ℕ → List ℕ) (n : ℕ) (o : Step) (cs ws : List ℕ) →
+    o .count + length (chunks n f) < 2 ^ 32 → 4 * length cs < 2 ^ 63 → 2 * length ws < 2 ^ 63 → Turns f n o cs ws 0 0 o cs ws
+turns-start f n o cs ws b c w =
+    record {
+      within = omega arith;
+      few = b;
+      done = filling (fills-as (sym (chunks-none f)) (fills-none o cs ws));
+      counts-room = c;
+      words-room = w;
+    }
+
+module _
+    {f : ℕ → List ℕ} {n i steps : ℕ} {o held : Step} {cs ws cs′ ws′ : List ℕ} (t : Turns f n o cs ws i steps held cs′ ws′)
+  where
+    -- the next chunk can be counted
+    pub turn-counted : i < n → held .count + length (f i) < 2 ^ 32
+    turn-counted l = omega (arith, t .few, t .done .small, chunk-room i n f l)
+
+    -- and so can its steps
+    pub turn-steps :
+        {held′ : Step} {xs ps qs ps′ qs′ : List ℕ} {m : ℕ} → i < n → xs ≡ f i → Fills held xs ps qs m held′ ps′ qs′ → steps + m < 2 ^ 64
+    turn-steps l e y = omega (arith, t .few, t .done .few, filling y .few, ap length e, chunk-room i n f l)
+
+    pub turn-more :
+        {held′ : Step} {xs p q : List ℕ} {m j k : ℕ} → i < n → xs ≡ f i → j ≡ min steps (length cs′) → k ≡ min steps (length ws′) →
+        Fills held xs (midOf j (length cs′ - j) cs′) (midOf k (length ws′ - k) ws′) m held′ p q →
+        Turns f n o cs ws (i + 1) (steps + m) held′ (putMid j (length cs′ - j) cs′ p) (putMid k (length ws′ - k) ws′ q)
+    turn-more l e ej ek y =
+        record {
+          within = omega arith;
+          few = t .few;
+          done = filling (fills-more (t .done .fills) ej ek y (rw (e, chunks-more i f)));
+          counts-room = t .counts-room;
+          words-room = t .words-room;
+        }
+
+    pub turns-end : n ≤ i → Fills o (chunks n f) cs ws steps held cs′ ws′
+    turns-end h =
+        let b : i ≤ n = t .within in
+        let e : i ≡ n = omega arith in
+        rw e at (t .done .fills)
+
+-- `search turning` finds what a turn did and what all did
+pub ruleset turning = (turn-more, turns-end)
 
 -- ---- the open step is closed, or there is none
 
 module _ (o : Step) (cs ws : List ℕ) where
-  pub flush-none : o .count ≡ 0 → Lays (flush o) cs ws 0 cs ws
-  unfolding flush lay
-  flush-none e = let f = eq-eqb (o .count) 0 e in record { tells = rw f; counted = rw f; worded = rw f }
+  pub flush-none : o .count ≡ 0 → Writes (flush o) cs ws 0 cs ws
+  unfolding flush overFit
+  flush-none e = let f = eq-eqb (o .count) 0 e in record { number = rw f; counts = rw f; words = rw f }
 
   pub flush-step :
       {cs′ ws′ : List ℕ} →
-      (o .count ≡ 0 → ⊥) → cs′ ≡ lay (o .count ∷ []) cs → ws′ ≡ lay (o .word ∷ []) ws → Lays (flush o) cs ws 1 cs′ ws′
+      (o .count ≡ 0 → ⊥) → cs′ ≡ overFit (o .count ∷ []) cs → ws′ ≡ overFit (o .word ∷ []) ws → Writes (flush o) cs ws 1 cs′ ws′
   unfolding flush
-  flush-step e p q = let f = ne-eqb (o .count) 0 e in record { tells = rw f; counted = rw f p; worded = rw f q }
+  flush-step e p q = let f = ne-eqb (o .count) 0 e in record { number = rw f; counts = rw f p; words = rw f q }
 
 -- ---- a word is pushed a number of times
 
-module _ (cs ws : List ℕ) where
-  hold-same : (n k w : ℕ) → Fills (record { count = k; word = w }) (replicate n w) cs ws 0 (record { count = k + n; word = w }) cs ws
-  unfolding lay
-  hold-same n k w =
-      let s = closed-same n k w in
-      record { lays = record { tells = rw s; counted = rw s; worded = rw s }; leaves = sym (opened-same n k w) }
-
-  hold-other :
-      {m : ℕ} {cs′ ws′ : List ℕ} (n w : ℕ) (o : Step) →
-      (o .word ≡ w → ⊥) → 0 < n → Lays (flush o) cs ws m cs′ ws′ →
-      Fills o (replicate n w) cs ws m (record { count = n; word = w }) cs′ ws′
-  unfolding opened closed
-  hold-other zero w o e h l = absurd (omega arith)
-  hold-other (suc n) w o e h l =
-      let s = push-other o w e in
-      record { lays = rw (s .0, s .1, closed-same n 1 w, append-nil) l; leaves = rw (opened, s .1, opened-same n 1 w, add-comm 1 n, add-one) }
-
 module _ (o : Step) (w n : ℕ) (cs ws : List ℕ) where
-  pub hold-joins : o .word ≡ w → Fills o (replicate n w) cs ws 0 (record { count = o .count + n; word = w }) cs ws
-  hold-joins e = rw (← e) (hold-same cs ws n (o .count) (o .word))
+  pub hold-joins : o .word ≡ w → Fills o (replicate n w) cs ws 0 (step (o .count + n) w) cs ws
+  unfolding overFit
+  hold-joins e =
+      let r = run-joins n w o e in
+      record { writes = record { number = rw (r .0); counts = rw (r .0); words = rw (r .0) }; leaves = sym (r .1) }
 
   pub hold-none : n ≡ 0 → Fills o (replicate n w) cs ws 0 o cs ws
   hold-none e = rw e (fills-none o cs ws)
 
   pub hold-starts :
       {m : ℕ} {cs′ ws′ : List ℕ} →
-      (o .word ≡ w → ⊥) → (n ≡ 0 → ⊥) → Lays (flush o) cs ws m cs′ ws′ →
-      Fills o (replicate n w) cs ws m (record { count = n; word = w }) cs′ ws′
-  hold-starts e h l = hold-other cs ws n w o e (omega arith) l
+      (o .word ≡ w → ⊥) → (n ≡ 0 → ⊥) → Writes (flush o) cs ws m cs′ ws′ → Fills o (replicate n w) cs ws m (step n w) cs′ ws′
+  hold-starts e h l =
+      let r = run-starts n w o e (omega arith) in
+      record { writes = rw (r .0) l; leaves = sym (r .1) }
 
 -- ---- a run of equal words, one more a turn
 
@@ -248,10 +285,6 @@ pub alike-few :
 alike-few {w = w} {i = i} {j = j} a f = omega (arith, filling f, length-replicate (j - i) w)
 
 -- ---- a line's words by way of a buffer
-
-pub fills-as :
-    {o h : Step} {xs ys cs ws cs′ ws′ : List ℕ} {n : ℕ} → xs ≡ ys → Fills o xs cs ws n h cs′ ws′ → Fills o ys cs ws n h cs′ ws′
-fills-as e f = rw (← e) f
 
 -- the front of a buffer that was lent and filled with a line's words
 pub filled-front :

@@ -7,7 +7,7 @@ pub mod Fills
 pub mod Passes
 pub mod Spelling
 pub mod Puts
-pub mod Told
+pub mod Printed
 pub mod FieldLoops
 pub mod Readback
 pub mod Prints

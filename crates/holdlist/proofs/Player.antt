@@ -12,16 +12,16 @@ use lib.Seq.{slice, slice-cons, slice-empty}
 use lib.Dec.{ltb}
 use borrow.Author.Tests.{le-leb, lt-leb, lt-ltb, le-ltb}
 use Rattle.holdlist.specs.declared.Played.{Played}
-use Rattle.holdlist.specs.Play.{walk, playAnswer, shown, notShown}
+use Rattle.holdlist.specs.Play.{walk, playAnswer, playedWord, playedNothing}
 
 -- ---- 20, and what is played otherwise
 
 module _ (cs ws : List ℕ) (used n : ℕ) where
-  pub play-no-counts : length cs < used → notShown 20 ≡ playAnswer cs ws used n
+  pub play-no-counts : length cs < used → playedNothing 20 ≡ playAnswer cs ws used n
   unfolding playAnswer
   play-no-counts h = rw (lt-leb used (length cs) h)
 
-  pub play-no-words : used ≤ length cs → length ws < used → notShown 20 ≡ playAnswer cs ws used n
+  pub play-no-words : used ≤ length cs → length ws < used → playedNothing 20 ≡ playAnswer cs ws used n
   unfolding playAnswer
   play-no-words k h = rw (le-leb used (length cs) k, lt-leb used (length ws) h)
 
@@ -44,18 +44,18 @@ module _ {cs ws : List ℕ} {used n i left : ℕ} (p : Playing cs ws used n i le
   playing-cons :
       i < used →
       playAnswer cs ws used n ≡
-      cond (ltb left (getD cs i 0)) (shown (getD ws i 0)) (walk (slice (i + 1) used cs) (slice (i + 1) used ws) (left - getD cs i 0))
+      cond (ltb left (getD cs i 0)) (playedWord (getD ws i 0)) (walk (slice (i + 1) used cs) (slice (i + 1) used ws) (left - getD cs i 0))
   unfolding walk
   playing-cons h = p .rest ∙ rw (add-one i, slice-cons i used cs 0 h (p .counted), slice-cons i used ws 0 h (p .worded))
 
-  pub playing-here : i < used → left < getD cs i 0 → shown (getD ws i 0) ≡ playAnswer cs ws used n
+  pub playing-here : i < used → left < getD cs i 0 → playedWord (getD ws i 0) ≡ playAnswer cs ws used n
   playing-here h l = sym (playing-cons h ∙ rw (lt-ltb left (getD cs i 0) l))
 
   pub playing-on : i < used → getD cs i 0 ≤ left → Playing cs ws used n (i + 1) (left - getD cs i 0)
   playing-on h l =
       record { within = omega arith; counted = p .counted; worded = p .worded; rest = playing-cons h ∙ rw (le-ltb left (getD cs i 0) l) }
 
-  pub playing-end : used ≤ i → notShown 19 ≡ playAnswer cs ws used n
+  pub playing-end : used ≤ i → playedNothing 19 ≡ playAnswer cs ws used n
   unfolding walk
   playing-end h =
       let w : i ≤ used = p .within in
@@ -66,17 +66,17 @@ module _ {cs ws : List ℕ} {used n i left : ℕ} (p : Playing cs ws used n i le
 
 -- what a player of the words xs shows at position n
 unfoldable pub showing : List ℕ → ℕ → Played
-showing [] n = notShown 19
-showing (x ∷ xs) zero = shown x
+showing [] n = playedNothing 19
+showing (x ∷ xs) zero = playedWord x
 showing (x ∷ xs) (suc n) = showing xs n
 
-pub showing-below : (xs : List ℕ) (n : ℕ) → n < length xs → showing xs n ≡ shown (getD xs n 0)
+pub showing-below : (xs : List ℕ) (n : ℕ) → n < length xs → showing xs n ≡ playedWord (getD xs n 0)
 unfolding showing
 showing-below [] n h = absurd (omega arith)
 showing-below (x ∷ xs) zero h = refl
 showing-below (x ∷ xs) (suc n) h = showing-below xs n (omega arith)
 
-pub showing-past : (xs : List ℕ) (n : ℕ) → length xs ≤ n → showing xs n ≡ notShown 19
+pub showing-past : (xs : List ℕ) (n : ℕ) → length xs ≤ n → showing xs n ≡ playedNothing 19
 unfolding showing
 showing-past [] n h = refl
 showing-past (x ∷ xs) zero h = absurd (omega arith)
@@ -86,12 +86,12 @@ showing-past (x ∷ xs) (suc n) h = showing-past xs n (omega arith)
 pub differ : (i j : ℕ) (p q : Played) → p .verdict .number ≡ i → q .verdict .number ≡ j → i < j → p ≡ q → ⊥
 differ i j p q a b h e = let t : p .verdict .number ≡ q .verdict .number = ap (λ (r : Played). r .verdict .number) e in omega arith
 
--- what is shown at every position tells the words
+-- what is played at every position tells the words
 pub showing-ext : (xs ys : List ℕ) → ((n : ℕ) → showing xs n ≡ showing ys n) → xs ≡ ys
 unfolding showing
 showing-ext [] [] e = refl
-showing-ext [] (y ∷ ys) e = absurd (differ 0 19 (shown y) (notShown 19) refl refl (omega arith) (sym (e 0)))
-showing-ext (x ∷ xs) [] e = absurd (differ 0 19 (shown x) (notShown 19) refl refl (omega arith) (e 0))
+showing-ext [] (y ∷ ys) e = absurd (differ 0 19 (playedWord y) (playedNothing 19) refl refl (omega arith) (sym (e 0)))
+showing-ext (x ∷ xs) [] e = absurd (differ 0 19 (playedWord x) (playedNothing 19) refl refl (omega arith) (e 0))
 showing-ext (x ∷ xs) (y ∷ ys) e =
     let t : x ≡ y = ap (λ (r : Played). r .word) (e 0) in
     rw (t, showing-ext xs ys (λ n. e (suc n)))

@@ -7,7 +7,7 @@ use mathlib.Core.Path.{_≡_, sym, ap, subst, _∙_}
 use mathlib.Core.Logic.{_↔_}
 use mathlib.Core.List.{List}
 use mathlib.Core.Bool.{true, false, false≢true}
-use lib.ListN.{length, take, length-map}
+use lib.ListN.{length, take}
 use lib.Seq.{take-all, length-take-le}
 use lib.Dec.{leb, eqb}
 use borrow.Author.Tests.{le-leb, lt-leb, leb-true, leb-false, eqb-true, eqb-false, ne-eqb}
@@ -15,7 +15,7 @@ use Rattle.profile.specs.Bytes.{Bytes}
 use Rattle.profile.specs.Values.{emptyField, emptyProfile, accepted}
 use Rattle.profile.specs.Geometry.{pixelCount}
 use Rattle.profile.specs.Rules.{checkProfile}
-use Rattle.profile.specs.Script.{readScript}
+use Rattle.profile.specs.Script.{mostBytes, readScript}
 use Rattle.profile.specs.Records.{unread, taken, Reads}
 use Rattle.profile.specs.declared.Profile.{Profile}
 use Rattle.profile.specs.declared.Verdict.{Verdict}
@@ -25,15 +25,33 @@ use Rattle.profile.proofs.Accepted.{accepted-field}
 use Rattle.profile.proofs.Reading.{read-refused, read-accepted, read-verdict}
 use Rattle.profile.proofs.Scripts.{read-exactly}
 use Rattle.level.proofs.Words.{field-words-length}
-use Rattle.holdlist.specs.Runs.{countOf, wordOf, countsOf, wordsOf}
+use Rattle.holdlist.specs.Runs.{stepCounts, stepWords}
 use Rattle.holdlist.specs.Compile.{holdVerdict, holdAnswer, profileWords, fieldRuns, compileAnswer}
-use Rattle.holdlist.specs.Text.{refusedLine, listing, told, printedOf, printed}
+use Rattle.holdlist.specs.Text.{refusedLine, listing, printedAnswer, printedOf, printed}
 use Rattle.holdlist.specs.Readback.{Tells, TellsRefusal}
 use Rattle.holdlist.specs.Prints.{Shortest, Prints, refusal, no-room, steps-told}
 use Rattle.holdlist.proofs.Runs.{runs-word, runs-one}
 use Rattle.holdlist.proofs.Shortest.{expands, no-fewer, counts-many, words-many, encoded-whole}
 use Rattle.holdlist.proofs.Demanded.{plays-field, field-small}
 use Rattle.holdlist.proofs.Readback.{refusal-told, listing-told, tells-one, tells-refusal-one}
+
+-- ---- the field's runs, as they are listed
+
+module _ (p : Profile) where
+  abbrev steps : ℕ
+  steps = length (fieldRuns p)
+
+  abbrev pixels : ℕ
+  pixels = pixelCount (p .tables) (p .field)
+
+  abbrev counts : List ℕ
+  counts = stepCounts (fieldRuns p)
+
+  abbrev words : List ℕ
+  words = stepWords (fieldRuns p)
+
+  abbrev list : List ℕ
+  list = listing steps pixels counts words
 
 -- ---- what is printed, by what the script reads to
 
@@ -43,22 +61,22 @@ module _ (s : List ℕ) where
   printed-unread n place e h = rw e (rw (ne-eqb n 0 (omega arith)))
 
   module _ (p : Profile) (e : readScript s ≡ taken p) (ok : checkProfile p ≡ accepted) where
-    printed-no-room : 4096 < length (fieldRuns p) → printed s ≡ refusedLine 18 (length (fieldRuns p))
-    unfolding printed printedOf told compileAnswer holdAnswer holdVerdict
-    printed-no-room h = rw e (rw (ok, lt-leb (length (fieldRuns p)) 4096 h))
+    printed-no-room : 4096 < steps p → printed s ≡ refusedLine 18 (steps p)
+    unfolding printed printedOf printedAnswer compileAnswer holdAnswer holdVerdict
+    printed-no-room h = rw e (rw (ok, lt-leb (steps p) 4096 h))
 
-    printed-list :
-        length (fieldRuns p) ≤ 4096 →
-        printed s ≡ listing (length (fieldRuns p)) (pixelCount (p .tables) (p .field)) (countsOf (fieldRuns p)) (wordsOf (fieldRuns p))
-    unfolding printed printedOf told compileAnswer holdAnswer holdVerdict
-    printed-list h = rw e (rw (ok, le-leb (length (fieldRuns p)) 4096 h, field-words-length (p .tables) (p .field)))
+    printed-list : steps p ≤ 4096 → printed s ≡ list p
+    unfolding printed printedOf printedAnswer compileAnswer holdAnswer holdVerdict
+    printed-list h = rw e (rw (ok, le-leb (steps p) 4096 h, field-words-length (p .tables) (p .field)))
 
 -- ---- the field's runs are its shortest list, and no other is
 
 module _ (p : Profile) where
-  shortest : Shortest p (length (fieldRuns p)) (countsOf (fieldRuns p)) (wordsOf (fieldRuns p))
+  abbrev xs : List ℕ
+  xs = profileWords p
+
+  shortest : Shortest p (steps p) (counts p) (words p)
   shortest =
-      let xs = profileWords p in
       record {
         counts-length = counts-many xs;
         words-length = words-many xs;
@@ -66,24 +84,21 @@ module _ (p : Profile) where
         least = λ cs ws used q. no-fewer xs cs ws used (plays-field (p .tables) (p .field) cs ws used .1 q);
       }
 
-  module _ (steps : ℕ) (counts words : List ℕ) (w : Shortest p steps counts words) where
-    shortest-steps : steps ≡ length (fieldRuns p)
+  module _ {k : ℕ} {cs ws : List ℕ} (w : Shortest p k cs ws) where
+    shortest-steps : k ≡ steps p
     shortest-steps = omega (arith, w .least _ _ _ (shortest .plays), shortest .least _ _ _ (w .plays))
 
-    shortest-one : (counts ≡ countsOf (fieldRuns p)) × (words ≡ wordsOf (fieldRuns p))
+    shortest-one : (cs ≡ counts p) × (ws ≡ words p)
     shortest-one =
-        let x = expands (profileWords p) counts words steps (plays-field (p .tables) (p .field) counts words steps .1 (w .plays)) in
-        let a : take steps counts ≡ counts = take-all steps counts (omega (arith, w .counts-length)) in
-        let b : take steps words ≡ words = take-all steps words (omega (arith, w .words-length)) in
-        runs-one counts words (profileWords p) (rw (a, b) at x) (w .counts-length ∙ shortest-steps) (w .words-length ∙ sym (w .counts-length))
+        let x = expands xs cs ws k (plays-field (p .tables) (p .field) cs ws k .1 (w .plays)) in
+        let a : take k cs ≡ cs = take-all k cs (omega (arith, w .counts-length)) in
+        let b : take k ws ≡ ws = take-all k ws (omega (arith, w .words-length)) in
+        runs-one cs ws xs (rw (a, b) at x) (w .counts-length ∙ shortest-steps) (w .words-length ∙ sym (w .counts-length))
 
-  list-told :
-      Tells (listing (length (fieldRuns p)) (pixelCount (p .tables) (p .field)) (countsOf (fieldRuns p)) (wordsOf (fieldRuns p)))
-      (length (fieldRuns p)) (pixelCount (p .tables) (p .field)) (countsOf (fieldRuns p)) (wordsOf (fieldRuns p))
+  list-told : Tells (list p) (steps p) (pixels p) (counts p) (words p)
   list-told =
-      listing-told (length (fieldRuns p)) (pixelCount (p .tables) (p .field)) (countsOf (fieldRuns p)) (wordsOf (fieldRuns p))
-      (length-map (fieldRuns p) countOf) (length-map (fieldRuns p) wordOf)
-      (λ i. omega (arith, runs-word (2 ^ 16) (profileWords p) (field-small (p .tables) (p .field)) i))
+      listing-told (steps p) (pixels p) (counts p) (words p) (counts-many xs) (words-many xs)
+      (λ i. omega (arith, runs-word (2 ^ 16) xs (field-small (p .tables) (p .field)) i))
 
 -- ---- what a script reads to
 
@@ -112,18 +127,15 @@ module _ (s : List ℕ) (b : Bytes s) where
   prints-taken : (p : Profile) → readScript s ≡ taken p → Prints s (printed s)
   prints-taken p e =
       let ok = taken-accepted p e in
-      let k = length (fieldRuns p) in
-      let counts = countsOf (fieldRuns p) in
-      let words = wordsOf (fieldRuns p) in
-      by-cases (leb k 4096)
+      by-cases (leb (steps p) 4096)
       (λ q.
-      let h = leb-true k 4096 q in
-      steps-told p k counts words (reads e) (shortest p) h
-      (subst (λ (t : List ℕ). Tells t k (pixelCount (p .tables) (p .field)) counts words) (sym (printed-list s p e ok h)) (list-told p)))
+      let h = leb-true (steps p) 4096 q in
+      steps-told p (steps p) (counts p) (words p) (reads e) (shortest p) h
+      (subst (λ (t : List ℕ). Tells t (steps p) (pixels p) (counts p) (words p)) (sym (printed-list s p e ok h)) (list-told p)))
       (λ q.
-      let h = leb-false k 4096 q in
-      no-room p k counts words (reads e) (shortest p) h
-      (subst (λ (t : List ℕ). TellsRefusal t 18 k) (sym (printed-no-room s p e ok h)) (refusal-told 18 k)))
+      let h = leb-false (steps p) 4096 q in
+      no-room p (steps p) (counts p) (words p) (reads e) (shortest p) h
+      (subst (λ (t : List ℕ). TellsRefusal t 18 (steps p)) (sym (printed-no-room s p e ok h)) (refusal-told 18 (steps p))))
 
   prints-unread : (n place : ℕ) → readScript s ≡ unread n place → Prints s (printed s)
   prints-unread n place e =
@@ -145,18 +157,17 @@ module _ (s : List ℕ) (b : Bytes s) where
   printed-one text (refusal n place r t) =
       let e = read-exactly s b (unread n place) .1 r in
       printed-unread s n place e (unread-number n place e) ∙ tells-refusal-one _ text n place (refusal-told n place) t
-  printed-one text (no-room p steps counts words r w h t) =
+  printed-one text (no-room p k cs ws r w h t) =
       let e = read-exactly s b (taken p) .1 r in
-      let k = shortest-steps p steps counts words w in
-      printed-no-room s p e (taken-accepted p e) (omega (arith, h, k))
-      ∙ tells-refusal-one _ text 18 (length (fieldRuns p)) (refusal-told 18 (length (fieldRuns p))) (subst (λ (n : ℕ). TellsRefusal text 18 n) k t)
-  printed-one text (steps-told p steps counts words r w h t) =
+      let same = shortest-steps p w in
+      printed-no-room s p e (taken-accepted p e) (omega (arith, h, same))
+      ∙ tells-refusal-one _ text 18 (steps p) (refusal-told 18 (steps p)) (rw same at t)
+  printed-one text (steps-told p k cs ws r w h t) =
       let e = read-exactly s b (taken p) .1 r in
-      let k = shortest-steps p steps counts words w in
-      let o = shortest-one p steps counts words w in
-      printed-list s p e (taken-accepted p e) (omega (arith, h, k))
-      ∙ tells-one _ text (length (fieldRuns p)) (pixelCount (p .tables) (p .field)) (countsOf (fieldRuns p)) (wordsOf (fieldRuns p)) (list-told p)
-      (rw (k, o .0, o .1) at t)
+      let same = shortest-steps p w in
+      let lists = shortest-one p w in
+      printed-list s p e (taken-accepted p e) (omega (arith, h, same))
+      ∙ tells-one _ text (steps p) (pixels p) (counts p) (words p) (list-told p) (rw (same, lists .0, lists .1) at t)
 
   -- for every sequence of bytes: exactly the refusal of the first broken rule, or S, P and the S steps of the shortest list that plays the field
   pub printed-exactly : (text : List ℕ) → (printed s ≡ text) ↔ Prints s text
@@ -164,9 +175,9 @@ module _ (s : List ℕ) (b : Bytes s) where
 
 -- ---- what is past the first 16,385 bytes makes no difference: the program may stop reading there
 
-too-long : (s : List ℕ) → 16384 < length s → readScript s ≡ unread 1 0
+too-long : (s : List ℕ) → mostBytes < length s → readScript s ≡ unread 1 0
 unfolding readScript
-too-long s h = rw (lt-leb (length s) 16384 h)
+too-long s h = rw (lt-leb (length s) mostBytes h)
 
 pub printed-enough : (s : List ℕ) → printed (take 16385 s) ≡ printed s
 printed-enough s =

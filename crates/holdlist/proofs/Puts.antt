@@ -2,18 +2,16 @@
 -- Assumes nothing.
 use Prim.Native.Nat.{ℕ, suc, _+_, _≤_, _<_, min, max}
 use native.Mathlib.Omega.{arith}
-use native.Mathlib.Numerals.{add-one}
 use mathlib.Core.Path.{_≡_, refl, sym, ap, _∙_}
 use mathlib.Core.List.{List, [], _∷_, _++_}
-use lib.ListN.{length, getD, take, drop, set, length-append}
-use lib.Seq.{sets, set-out, length-sets, take-suc, take-append-seam}
+use lib.ListN.{length, take, drop, length-append}
+use lib.Seq.{sets, set-out, length-sets, take-append-seam}
 use lib.Dec.{leb}
 use borrow.Author.Tests.{leb-true, leb-false}
 use Rattle.profile.specs.Lists.{chunks}
 use Rattle.profile.proofs.Laws.{by-cases, chunks-more, chunks-none}
 use Rattle.profile.proofs.Stores.{sets-more, sets-front}
-use Rattle.holdlist.specs.Compile.{roomOf}
-use Rattle.holdlist.specs.Text.{headLine, stepLineAt, listing, Puts}
+use Rattle.holdlist.specs.Text.{Puts}
 
 -- past the end nothing is stored
 sets-out : (l vs : List ℕ) (i : ℕ) → length l ≤ i → sets l i vs ≡ l
@@ -22,9 +20,6 @@ sets-out l (v ∷ vs) i h = rw (set-out l i v h) (sets-out l vs (suc i) (omega a
 
 pub puts-none : (l : List ℕ) (k : ℕ) → Puts [] l k k l
 puts-none l k = record { stored = refl; ended = omega arith }
-
-pub puts-one : (l : List ℕ) (x k : ℕ) → k < length l → Puts (x ∷ []) l k (k + 1) (set l k x)
-puts-one l x k h = record { stored = refl; ended = omega arith }
 
 pub puts-past : (l : List ℕ) (x k : ℕ) → length l ≤ k → Puts (x ∷ []) l k k l
 puts-past l x k h = record { stored = sym (set-out l k x h); ended = omega arith }
@@ -47,32 +42,33 @@ puts-more {a} {b} {l} {l′} {l″} {k} {m} {n} p q =
           omega (arith, p .ended, q .ended, length-append a b, ap length (p .stored), length-sets l k a);
     }
 
--- a turn of a loop that puts the bytes of a list one by one
-pub puts-next :
-    {l l′ l″ : List ℕ} {k m n : ℕ} (b : List ℕ) (i : ℕ) →
-    Puts (take i b) l k m l′ → i < length b → Puts (getD b i 0 ∷ []) l′ m n l″ → Puts (take (i + 1) b) l k n l″
-puts-next b i p h q = rw (add-one, take-suc b i 0) (puts-more p q)
-
 pub puts-length : {b l l′ : List ℕ} {k n : ℕ} → Puts b l k n l′ → length l′ ≡ length l
 puts-length {b} {l} {l′} {k} p = ap length (p .stored) ∙ length-sets l k b
 
 pub puts-as : {a b l l′ : List ℕ} {k n : ℕ} → Puts a l k n l′ → a ≡ b → Puts b l k n l′
 puts-as p e = rw (← e) p
 
--- a turn of a loop that puts chunk after chunk
-pub puts-chunk :
-    {l l′ l″ : List ℕ} {k m n : ℕ} (f : ℕ → List ℕ) (i : ℕ) →
-    Puts (chunks i f) l k m l′ → Puts (f i) l′ m n l″ → Puts (chunks (i + 1) f) l k n l″
-puts-chunk f i p q = rw chunks-more (puts-more p q)
+-- ---- a loop that puts chunk after chunk
 
-pub puts-no-chunk : (f : ℕ → List ℕ) (l : List ℕ) (k : ℕ) → Puts (chunks 0 f) l k k l
-puts-no-chunk f l k = rw chunks-none (puts-none l k)
+-- the first i of n chunks are put
+pub record Chunked (f : ℕ → List ℕ) (n : ℕ) (l : List ℕ) (k m : ℕ) (l′ : List ℕ) (i : ℕ) : Type 0 where
+  pub within : i ≤ n
+  pub put : Puts (chunks i f) l k m l′
+  pub long : length l′ ≡ length l
 
-pub puts-listing :
-    {l l′ l″ : List ℕ} {k m n : ℕ} (s p : ℕ) (cs ws : List ℕ) (i : ℕ) →
-    Puts (headLine s p) l k m l′ → Puts (chunks i (stepLineAt cs ws)) l′ m n l″ → i ≡ min s (roomOf cs ws) → Puts (listing s p cs ws) l k n l″
-unfolding listing
-puts-listing s p cs ws i h q e = rw (← e) (puts-more h q)
+pub chunked-none : {f : ℕ → List ℕ} {n : ℕ} {l : List ℕ} {k : ℕ} → Chunked f n l k k l 0
+chunked-none = record { within = omega arith; put = rw chunks-none (puts-none _ _); long = refl }
+
+module _ {f : ℕ → List ℕ} {n : ℕ} {l : List ℕ} {k m : ℕ} {l′ : List ℕ} {i : ℕ} (p : Chunked f n l k m l′ i) where
+  pub chunked-more : {m′ : ℕ} {l″ : List ℕ} → i < n → Puts (f i) l′ m m′ l″ → Chunked f n l k m′ l″ (i + 1)
+  chunked-more h q =
+      record { within = omega arith; put = rw chunks-more (puts-more (p .put) q); long = puts-length q ∙ p .long }
+
+  pub chunked-all : n ≤ i → Puts (chunks n f) l k m l′
+  chunked-all h = let e : i ≡ n = omega (arith, p .within) in rw e at (p .put)
+
+-- `search putting` finds the parts of a text that are put one after the other
+pub ruleset putting = (puts-more, chunked-none, chunked-more, chunked-all)
 
 -- what fits whole stands at the front
 pub puts-whole : {b l l′ : List ℕ} {n : ℕ} → Puts b l 0 n l′ → length b ≤ length l → (n ≤ length l) × (take n l′ ≡ b)

@@ -3,19 +3,20 @@
 -- Assumes nothing.
 use Prim.Native.Nat.{ℕ, zero, suc, _+_, _-_, _≤_, _<_, _^_}
 use native.Mathlib.Omega.{arith}
-use native.Mathlib.Nat.{sub-zero, suc-sub-suc, add-zero, add-suc, suc-add}
+use native.Mathlib.Numerals.{add-one}
+use native.Mathlib.Nat.{sub-zero, suc-sub-suc, add-zero, zero-add, add-suc, suc-add}
 use mathlib.Core.Path.{_≡_, refl, sym, ap, _∙_}
 use mathlib.Core.List.{List, [], _∷_, _++_, append-assoc, append-nil}
 use mathlib.Core.Bool.{cond}
-use lib.ListN.{length, getD, drop, replicate, length-append, length-replicate, List·getD-eq-default, List·getD-map}
+use lib.ListN.{length, getD, drop, replicate, length-append, replicate-append-replicate, List·getD-eq-default, List·getD-map}
 use lib.Seq.{drop-at}
 use lib.Dec.{eqb, ltb, leb·suc-suc}
 use borrow.Author.Tests.{lt-ltb, le-ltb, eq-eqb, ne-eqb, eqb-true, eqb-false}
 use Rattle.profile.specs.Lists.{Each, over}
 use Rattle.profile.proofs.Laws.{cond-case, by-cases, each-append}
 use Rattle.holdlist.specs.declared.Step.{Step}
-use Rattle.holdlist.specs.Play.{walk, expand, shown}
-use Rattle.holdlist.specs.Runs.{none, flush, pushed, shut, opened, closed, runs, countOf, wordOf, countsOf, wordsOf}
+use Rattle.holdlist.specs.Play.{walk, expand, playedWord}
+use Rattle.holdlist.specs.Runs.{none, flush, pushed, shut, opened, closed, runs, stepCount, stepWord, stepCounts, stepWords}
 use Rattle.holdlist.proofs.Player.{showing}
 
 -- ---- lists
@@ -26,8 +27,7 @@ each-at P (x ∷ xs) d a z zero = a .0
 each-at P (x ∷ xs) d a z (suc i) = each-at P xs d (a .1) z i
 
 replicate-snoc : (n w : ℕ) → replicate (suc n) w ≡ replicate n w ++ (w ∷ [])
-replicate-snoc zero w = refl
-replicate-snoc (suc n) w = ap {B = List ℕ} (λ r. w ∷ r) (replicate-snoc n w)
+replicate-snoc n w = ap (λ (k : ℕ). replicate k w) (sym (add-one n)) ∙ sym (replicate-append-replicate n 1 w)
 
 -- what is past the new elements
 pub over-rest : {A : Type 0} (new old : List A) (n : ℕ) → length new ≡ n → drop n (over new old) ≡ drop n old
@@ -35,7 +35,7 @@ over-rest {A} new old n e = drop-at new (drop (length new) old) n e ∙ ap (λ (
 
 -- ---- walking is reading the expansion
 
-showing-run : (c w : ℕ) (xs : List ℕ) (n : ℕ) → showing (replicate c w ++ xs) n ≡ cond (ltb n c) (shown w) (showing xs (n - c))
+showing-run : (c w : ℕ) (xs : List ℕ) (n : ℕ) → showing (replicate c w ++ xs) n ≡ cond (ltb n c) (playedWord w) (showing xs (n - c))
 unfolding showing
 showing-run zero w xs n = rw (le-ltb n 0 (omega arith), sub-zero n)
 showing-run (suc c) w xs zero = rw (lt-ltb 0 (suc c) (omega arith))
@@ -59,21 +59,51 @@ unfolding opened closed
 closed-append o [] ys = refl
 closed-append o (x ∷ xs) ys = rw (closed-append (pushed o x) xs ys, append-assoc)
 
+-- the steps of the words xs after the open step o
+abbrev steps-after : Step → List ℕ → List Step
+steps-after o xs = closed o xs ++ flush (opened o xs)
+
+steps-append : (o : Step) (xs ys : List ℕ) → steps-after o (xs ++ ys) ≡ closed o xs ++ steps-after (opened o xs) ys
+steps-append o xs ys = rw (closed-append o xs ys, opened-append o xs ys, append-assoc)
+
 -- ---- what a push does, by cases
 
-pub push-same : (o : Step) (x : ℕ) → o .word ≡ x → (shut o x ≡ []) × (pushed o x ≡ record { count = suc (o .count); word = x })
+abbrev pub step : ℕ → ℕ → Step
+step c w = record { count = c; word = w }
+
+push-same : (o : Step) (x : ℕ) → o .word ≡ x → (shut o x ≡ []) × (pushed o x ≡ step (suc (o .count)) x)
 unfolding shut pushed
 push-same o x e = (rw (eq-eqb (o .word) x e), rw (eq-eqb (o .word) x e))
 
-pub push-other : (o : Step) (x : ℕ) → (o .word ≡ x → ⊥) → (shut o x ≡ flush o) × (pushed o x ≡ record { count = 1; word = x })
+push-other : (o : Step) (x : ℕ) → (o .word ≡ x → ⊥) → (shut o x ≡ flush o) × (pushed o x ≡ step 1 x)
 unfolding shut pushed
 push-other o x e = (rw (ne-eqb (o .word) x e), rw (ne-eqb (o .word) x e))
+
+-- a run of the open step's word joins it
+pub run-joins :
+    (n w : ℕ) (o : Step) → o .word ≡ w → (closed o (replicate n w) ≡ []) × (opened o (replicate n w) ≡ step (o .count + n) w)
+unfolding closed opened
+run-joins zero w o e = (refl, rw (← e, add-zero))
+run-joins (suc n) w o e =
+    let p = push-same o w e in
+    let r = run-joins n w (step (suc (o .count)) w) refl in
+    (rw (p .0, p .1, r .0), rw (opened, p .1) (r .1 ∙ rw (add-suc, suc-add)))
+
+-- one of another word closes it, and opens a step of its own
+pub run-starts :
+    (n w : ℕ) (o : Step) → (o .word ≡ w → ⊥) → 0 < n → (closed o (replicate n w) ≡ flush o) × (opened o (replicate n w) ≡ step n w)
+unfolding closed opened
+run-starts zero w o e h = absurd (omega arith)
+run-starts (suc n) w o e h =
+    let p = push-other o w e in
+    let r = run-joins n w (step 1 w) refl in
+    (rw (p .0, p .1, r .0, append-nil), rw (opened, p .1) (r .1 ∙ rw (suc-add, zero-add)))
 
 -- ---- the runs expand to the words
 
 -- what steps show
 abbrev pub shows : List Step → List ℕ
-shows s = expand (countsOf s) (wordsOf s)
+shows s = expand (stepCounts s) (stepWords s)
 
 shows-append : (s t : List Step) → shows (s ++ t) ≡ shows s ++ shows t
 unfolding expand
@@ -84,13 +114,17 @@ shows-append (o ∷ s) t = rw (shows-append s t, append-assoc)
 run : Step → List ℕ
 run o = replicate (o .count) (o .word)
 
+flush-some : (c w : ℕ) → flush (step (suc c) w) ≡ step (suc c) w ∷ []
+unfolding flush
+flush-some c w = rw (ne-eqb (suc c) 0 (λ e. omega arith))
+
 shows-flush : (o : Step) → shows (flush o) ≡ run o
 unfolding expand flush run
 shows-flush o = go (o .count) (o .word)
   where
-    go : (n w : ℕ) → shows (flush (record { count = n; word = w })) ≡ replicate n w
+    go : (n w : ℕ) → shows (flush (step n w)) ≡ replicate n w
     go zero w = refl
-    go (suc n) w = rw (ne-eqb (suc n) 0 (λ e. omega arith)) (append-nil (replicate (suc n) w))
+    go (suc n) w = rw flush-some (append-nil (replicate (suc n) w))
 
 shows-push : (o : Step) (x : ℕ) → shows (shut o x) ++ run (pushed o x) ≡ run o ++ (x ∷ [])
 unfolding expand shut pushed run
@@ -99,13 +133,13 @@ shows-push o x =
     (λ e. rw (e, eqb-true (o .word) x e) (replicate-snoc (o .count) x))
     (λ e. rw (e, shows-flush o))
 
-shows-open : (o : Step) (xs : List ℕ) → shows (closed o xs ++ flush (opened o xs)) ≡ run o ++ xs
+shows-open : (o : Step) (xs : List ℕ) → shows (steps-after o xs) ≡ run o ++ xs
 unfolding opened closed
 shows-open o [] = rw append-nil (shows-flush o)
 shows-open o (x ∷ xs) =
     rw (append-assoc, shows-append (shut o x), shows-open (pushed o x) xs, ← append-assoc (shows (shut o x)), shows-push o x, append-assoc)
 
-pub runs-expand : (xs : List ℕ) → expand (countsOf (runs xs)) (wordsOf (runs xs)) ≡ xs
+pub runs-expand : (xs : List ℕ) → expand (stepCounts (runs xs)) (stepWords (runs xs)) ≡ xs
 unfolding runs run
 runs-expand xs = shows-open none xs
 
@@ -119,34 +153,22 @@ pub shut-one : (o : Step) (x : ℕ) → length (shut o x) ≤ 1
 unfolding shut
 shut-one o x = cond-case (λ s. length s ≤ 1) (eqb (o .word) x) [] (flush o) (λ e. omega arith) (λ e. flush-one o)
 
--- the steps of the words xs after the open step o
+-- how many steps they are
 total : Step → List ℕ → ℕ
-total o xs = length (closed o xs) + length (flush (opened o xs))
+total o xs = length (steps-after o xs)
 
 total-append : (o : Step) (xs ys : List ℕ) → total o (xs ++ ys) ≡ length (closed o xs) + total (opened o xs) ys
 unfolding total
-total-append o xs ys = rw (closed-append o xs ys, opened-append o xs ys, length-append) (omega arith)
-
--- pushing more of the open step's word closes nothing
-pub closed-same : (n k w : ℕ) → closed (record { count = k; word = w }) (replicate n w) ≡ []
-unfolding closed shut pushed
-closed-same zero k w = refl
-closed-same (suc n) k w = rw (eq-eqb w w refl) (closed-same n (suc k) w)
-
-pub opened-same : (n k w : ℕ) → opened (record { count = k; word = w }) (replicate n w) ≡ record { count = k + n; word = w }
-unfolding opened pushed
-opened-same zero k w = rw add-zero
-opened-same (suc n) k w = rw (opened, eq-eqb w w refl) (opened-same n (suc k) w ∙ rw (add-suc, suc-add))
+total-append o xs ys = rw (steps-append o xs ys, length-append)
 
 closed-run : (c w : ℕ) (o : Step) → length (closed o (replicate (suc c) w)) ≤ length (flush o)
-unfolding closed shut pushed
 closed-run c w o =
     by-cases (eqb (o .word) w)
-    (λ e. rw (e, closed-same c (suc (o .count)) w) (omega arith))
-    (λ e. rw (e, closed-same c 1 w, append-nil) (omega arith))
+    (λ e. omega (arith, ap length (run-joins (suc c) w o (eqb-true (o .word) w e) .0)))
+    (λ e. omega (arith, ap length (run-starts (suc c) w o (eqb-false (o .word) w e) (omega arith) .0)))
 
-total-run : (c w : ℕ) (o : Step) → total o (replicate c w) ≤ length (flush o) + 1
-unfolding total closed opened
+total-run : (c w : ℕ) (o : Step) → length (closed o (replicate c w)) + length (flush (opened o (replicate c w))) ≤ length (flush o) + 1
+unfolding closed opened
 total-run zero w o = omega arith
 total-run (suc c) w o = omega (arith, closed-run c w o, flush-one (opened o (replicate (suc c) w)))
 
@@ -164,12 +186,9 @@ fewest-from (c ∷ cs) (w ∷ ws) o =
 
 pub runs-fewest : (cs ws xs : List ℕ) → expand cs ws ≡ xs → length (runs xs) ≤ length cs
 unfolding runs total flush
-runs-fewest cs ws xs e = rw (← e, length-append) (omega (arith, fewest-from cs ws none))
+runs-fewest cs ws xs e = rw (← e) (omega (arith, fewest-from cs ws none))
 
 -- ---- a list that is as short is the runs: a step of count 0, or of the word of the step before it, would be one too many
-
-abbrev step : ℕ → ℕ → Step
-step c w = record { count = c; word = w }
 
 -- two lists as one list of steps
 stepsOf : List ℕ → List ℕ → List Step
@@ -177,7 +196,7 @@ stepsOf [] ws = []
 stepsOf (c ∷ cs) [] = []
 stepsOf (c ∷ cs) (w ∷ ws) = step c w ∷ stepsOf cs ws
 
-steps-two : (cs ws : List ℕ) → length ws ≡ length cs → (countsOf (stepsOf cs ws) ≡ cs) × (wordsOf (stepsOf cs ws) ≡ ws)
+steps-two : (cs ws : List ℕ) → length ws ≡ length cs → (stepCounts (stepsOf cs ws) ≡ cs) × (stepWords (stepsOf cs ws) ≡ ws)
 unfolding stepsOf
 steps-two [] [] e = (refl, refl)
 steps-two [] (w ∷ ws) e = absurd (omega arith)
@@ -185,14 +204,6 @@ steps-two (c ∷ cs) [] e = absurd (omega arith)
 steps-two (c ∷ cs) (w ∷ ws) e =
     let t = steps-two cs ws (omega arith) in
     (ap (λ (l : List ℕ). c ∷ l) (t .0), ap (λ (l : List ℕ). w ∷ l) (t .1))
-
--- the steps of the words xs after the open step o
-steps-after : Step → List ℕ → List Step
-steps-after o xs = closed o xs ++ flush (opened o xs)
-
-flush-some : (c w : ℕ) → flush (step (suc c) w) ≡ step (suc c) w ∷ []
-unfolding flush
-flush-some c w = rw (ne-eqb (suc c) 0 (λ e. omega arith))
 
 flush-none : (o : Step) → length (flush o) ≡ 0 → (flush o ≡ []) × (o .count ≡ 0)
 unfolding flush
@@ -210,44 +221,37 @@ module _
     -- where it closes the open step and opens its own
     one-opened : closed o run-words ≡ flush o → opened o run-words ≡ step (suc c) w
         → steps-after o (run-words ++ expand cs ws) ≡ flush o ++ (step (suc c) w ∷ stepsOf cs ws)
-    unfolding steps-after
     one-opened a b =
         let f = flush-some c w in
         let t = total-append o run-words (expand cs ws) in
         let l : total (step (suc c) w) (expand cs ws) ≡ length (flush (step (suc c) w)) + length cs =
         omega (arith, e, rw (a, b) at t, ap length f)
         in
-        rw (closed-append o run-words (expand cs ws), opened-append o run-words (expand cs ws), a, b, append-assoc)
+        rw (steps-append o run-words (expand cs ws), a, b)
         (ap (λ (s : List Step). flush o ++ s) (on (step (suc c) w) l ∙ ap (λ (s : List Step). s ++ stepsOf cs ws) f))
 
     -- the word of the open step, which is none then
     one-same : o .word ≡ w → steps-after o (run-words ++ expand cs ws) ≡ flush o ++ (step (suc c) w ∷ stepsOf cs ws)
-    unfolding closed opened
     one-same q =
-        let p = push-same o w q in
-        let a : closed o run-words ≡ [] = rw (p .0, p .1) (closed-same c (suc (o .count)) w) in
-        let b : opened o run-words ≡ step (suc (o .count) + c) w = rw (opened, p .1) (opened-same c (suc (o .count)) w) in
+        let r = run-joins (suc c) w o q in
         let z =
         flush-none o
         (omega (
           arith,
           e,
-          ap length a,
+          ap length (r .0),
           total-append o run-words (expand cs ws),
           fewest-from cs ws (opened o run-words),
           flush-one (opened o run-words),
         ))
         in
-        one-opened (a ∙ sym (z .0)) (b ∙ ap (λ (n : ℕ). step n w) (omega (arith, z .1)))
+        one-opened (r .0 ∙ sym (z .0)) (r .1 ∙ ap (λ (n : ℕ). step n w) (omega (arith, z .1)))
 
     one-other : (o .word ≡ w → ⊥) → steps-after o (run-words ++ expand cs ws) ≡ flush o ++ (step (suc c) w ∷ stepsOf cs ws)
-    unfolding closed opened
-    one-other n =
-        let p = push-other o w n in
-        one-opened (rw (p .0, p .1, closed-same c 1 w) (append-nil (flush o))) (rw (opened, p .1) (opened-same c 1 w ∙ ap (λ (n : ℕ). step n w) (omega arith)))
+    one-other n = let r = run-starts (suc c) w o n (omega arith) in one-opened (r .0) (r .1)
 
 one-none : (o : Step) → steps-after o [] ≡ flush o ++ []
-unfolding steps-after closed opened
+unfolding closed opened
 one-none o = sym (append-nil (flush o))
 
 one-from : (cs ws : List ℕ) (o : Step) → length ws ≡ length cs → total o (expand cs ws) ≡ length (flush o) + length cs
@@ -262,24 +266,14 @@ one-from (suc c ∷ cs) (w ∷ ws) o h e =
     (λ q. one-other c w cs ws o (λ o. one-from cs ws o (omega arith)) e (eqb-false (o .word) w q))
 
 pub runs-one : (cs ws xs : List ℕ) → expand cs ws ≡ xs → length cs ≡ length (runs xs) → length ws ≡ length cs
-    → (cs ≡ countsOf (runs xs)) × (ws ≡ wordsOf (runs xs))
-unfolding runs steps-after total flush
+    → (cs ≡ stepCounts (runs xs)) × (ws ≡ stepWords (runs xs))
+unfolding runs total flush
 runs-one cs ws xs e h l =
-    let s = length-append (closed none xs) (flush (opened none xs)) in
-    let r : runs xs ≡ stepsOf cs ws = rw (← e) (one-from cs ws none l (rw e (omega (arith, s, h)))) in
+    let r : runs xs ≡ stepsOf cs ws = rw (← e) (one-from cs ws none l (rw e (omega (arith, h)))) in
     let t = steps-two cs ws l in
-    (sym (t .0) ∙ ap countsOf (sym r), sym (t .1) ∙ ap wordsOf (sym r))
+    (sym (t .0) ∙ ap stepCounts (sym r), sym (t .1) ∙ ap stepWords (sym r))
 
 -- ---- bounds of the number of steps
-
--- each word held once
-singles : (xs : List ℕ) → expand (replicate (length xs) 1) xs ≡ xs
-unfolding expand
-singles [] = refl
-singles (x ∷ xs) = rw (singles xs)
-
-pub runs-length : (xs : List ℕ) → length (runs xs) ≤ length xs
-runs-length xs = omega (arith, runs-fewest (replicate (length xs) 1) xs xs (singles xs), length-replicate {A = ℕ} (length xs) 1)
 
 pub closed-length : (o : Step) (xs : List ℕ) → length (closed o xs) ≤ length xs
 unfolding closed
@@ -310,45 +304,41 @@ module _ (P : Step → Type 0) where
   unfolding shut
   shut-each o x p = cond-case (Each P) (eqb (o .word) x) [] (flush o) (λ e. tt) (λ e. flush-each o p)
 
-abbrev CountTo : ℕ → Step → Type 0
-CountTo n o = o .count ≤ n
-
-abbrev WordBelow : ℕ → Step → Type 0
-WordBelow b o = o .word < b
-
-counts-each : (n : ℕ) (o : Step) (xs : List ℕ) → o .count + length xs ≤ n → Each (CountTo n) (closed o xs ++ flush (opened o xs))
+-- a claim of each step, where what is known of the open step and of the words to come says it and is kept by a push
+steps-each :
+    (P : Step → Type 0) (Q : Step → List ℕ → Type 0) → ((o : Step) (xs : List ℕ) → Q o xs → P o) →
+    ((o : Step) (x : ℕ) (xs : List ℕ) → Q o (x ∷ xs) → Q (pushed o x) xs) →
+    (o : Step) (xs : List ℕ) → Q o xs → Each P (steps-after o xs)
 unfolding closed opened
-counts-each n o [] l = flush-each (CountTo n) o (omega arith)
-counts-each n o (x ∷ xs) l =
+steps-each P Q says keeps o [] q = flush-each P o (says o [] q)
+steps-each P Q says keeps o (x ∷ xs) q =
     rw append-assoc
-    (each-append (CountTo n) (shut o x) _ (shut-each (CountTo n) o x (omega arith)) (counts-each n (pushed o x) xs (omega (arith, pushed-count o x))))
-
-words-each :
-    (b : ℕ) (o : Step) (xs : List ℕ) → o .word < b → ((i : ℕ) → getD xs i 0 < b) →
-    Each (WordBelow b) (closed o xs ++ flush (opened o xs))
-unfolding closed opened
-words-each b o [] l h = flush-each (WordBelow b) o l
-words-each b o (x ∷ xs) l h =
-    rw append-assoc
-    (each-append (WordBelow b) (shut o x) _ (shut-each (WordBelow b) o x l)
-    (words-each b (pushed o x) xs (rw (pushed-word o x) (h 0)) (λ i. h (suc i))))
+    (each-append P (shut o x) _ (shut-each P o x (says o (x ∷ xs) q)) (steps-each P Q says keeps (pushed o x) xs (keeps o x xs q)))
 
 -- every count is at most the number of words
-pub runs-count : (xs : List ℕ) (i : ℕ) → getD (countsOf (runs xs)) i 0 ≤ length xs
+pub runs-count : (xs : List ℕ) (i : ℕ) → getD (stepCounts (runs xs)) i 0 ≤ length xs
 unfolding runs
 runs-count xs i =
-    rw (List·getD-map countOf (runs xs) i none)
-    (each-at (CountTo (length xs)) (runs xs) none (counts-each (length xs) none xs (omega arith)) (omega arith) i)
+    let P : Step → Type 0 = λ o. o .count ≤ length xs in
+    let each =
+    steps-each P (λ o ys. o .count + length ys ≤ length xs) (λ o ys q. omega arith) (λ o x ys q. omega (arith, pushed-count o x)) none xs (omega arith)
+    in
+    rw (List·getD-map stepCount (runs xs) i none) (each-at P (runs xs) none each (omega arith) i)
 
 -- every word is below what all words are below
-pub runs-word : (b : ℕ) (xs : List ℕ) → ((i : ℕ) → getD xs i 0 < b) → (i : ℕ) → getD (wordsOf (runs xs)) i 0 < b
+pub runs-word : (b : ℕ) (xs : List ℕ) → ((i : ℕ) → getD xs i 0 < b) → (i : ℕ) → getD (stepWords (runs xs)) i 0 < b
 unfolding runs
 runs-word b xs h i =
+    let P : Step → Type 0 = λ o. o .word < b in
     let z : 0 < b = rw (List·getD-eq-default xs 0 {n = length xs} (omega arith)) at (h (length xs)) in
-    rw (List·getD-map wordOf (runs xs) i none) (each-at (WordBelow b) (runs xs) none (words-each b none xs z h) z i)
+    let each =
+    steps-each P (λ o ys. (o .word < b) × ((i : ℕ) → getD ys i 0 < b)) (λ o ys q. q .0)
+    (λ o x ys q. (rw (pushed-word o x) (q .1 0), λ i. q .1 (suc i))) none xs (z, h)
+    in
+    rw (List·getD-map stepWord (runs xs) i none) (each-at P (runs xs) none each z i)
 
 -- they fit a u32 and a u16
 pub runs-fit :
     (xs : List ℕ) → length xs < 2 ^ 32 → ((i : ℕ) → getD xs i 0 < 2 ^ 16) →
-    ((i : ℕ) → getD (countsOf (runs xs)) i 0 < 2 ^ 32) × ((i : ℕ) → getD (wordsOf (runs xs)) i 0 < 2 ^ 16)
+    ((i : ℕ) → getD (stepCounts (runs xs)) i 0 < 2 ^ 32) × ((i : ℕ) → getD (stepWords (runs xs)) i 0 < 2 ^ 16)
 runs-fit xs l h = ((λ i. omega (arith, runs-count xs i)), runs-word (2 ^ 16) xs h)

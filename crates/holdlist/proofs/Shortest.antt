@@ -10,17 +10,17 @@ use lib.Seq.{take-at, length-take-le}
 use lib.Dec.{ltb, leb}
 use borrow.Author.Tests.{ltb-true, ltb-false, leb-true, leb-false}
 use Rattle.profile.proofs.Laws.{by-cases}
-use Rattle.holdlist.specs.Play.{playAnswer, expand, shown, notShown}
+use Rattle.holdlist.specs.Play.{playAnswer, expand, playedWord, playedNothing}
 use Rattle.holdlist.specs.Demand.{Plays}
-use Rattle.holdlist.specs.Runs.{runs, countOf, wordOf, countsOf, wordsOf}
+use Rattle.holdlist.specs.Runs.{runs, stepCount, stepWord, stepCounts, stepWords}
 use Rattle.holdlist.proofs.Player.{play-walk, play-no-counts, play-no-words, showing, showing-below, showing-past, showing-ext, differ}
 use Rattle.holdlist.proofs.Runs.{walk-shows, runs-expand, runs-fewest}
 
 -- ---- a list that shows 19 somewhere has its steps, shows the words that they expand to, and 19 from there on
 
-module _ (cs ws : List ℕ) (used k : ℕ) (e : playAnswer cs ws used k ≡ notShown 19) where
-  not-20 : notShown 20 ≡ playAnswer cs ws used k → ⊥
-  not-20 d = differ 19 20 (notShown 19) (notShown 20) refl refl (omega arith) (sym (d ∙ e))
+module _ (cs ws : List ℕ) (used k : ℕ) (e : playAnswer cs ws used k ≡ playedNothing 19) where
+  not-20 : playedNothing 20 ≡ playAnswer cs ws used k → ⊥
+  not-20 d = differ 19 20 (playedNothing 19) (playedNothing 20) refl refl (omega arith) (sym (d ∙ e))
 
   counts-there : used ≤ length cs
   counts-there =
@@ -37,13 +37,13 @@ module _ (cs ws : List ℕ) (used k : ℕ) (e : playAnswer cs ws used k ≡ notS
   play-shows : (n : ℕ) → playAnswer cs ws used n ≡ showing (expand (take used cs) (take used ws)) n
   play-shows n = play-walk cs ws used n counts-there words-there ∙ walk-shows (take used cs) (take used ws) n
 
-  pub ends-after : (n : ℕ) → k ≤ n → playAnswer cs ws used n ≡ notShown 19
+  pub ends-after : (n : ℕ) → k ≤ n → playAnswer cs ws used n ≡ playedNothing 19
   ends-after n h =
       let xs : List ℕ = expand (take used cs) (take used ws) in
       by-cases (ltb k (length xs))
       (λ q.
       absurd
-      (differ 0 19 (shown (getD xs k 0)) (notShown 19) refl refl (omega arith)
+      (differ 0 19 (playedWord (getD xs k 0)) (playedNothing 19) refl refl (omega arith)
       (sym (showing-below xs k (ltb-true k (length xs) q)) ∙ sym (play-shows k) ∙ e)))
       (λ q. play-shows n ∙ showing-past xs n (omega (arith, ltb-false k (length xs) q)))
 
@@ -67,7 +67,7 @@ module _ (xs cs ws : List ℕ) (used : ℕ) where
         (λ e. let h = ltb-true n (length xs) e in p .shows n h ∙ sym (showing-below xs n h))
         (λ e. let h = ltb-false n (length xs) e in p .ends n h ∙ sym (showing-past xs n h))
 
-    last : playAnswer cs ws used (length xs) ≡ notShown 19
+    last : playAnswer cs ws used (length xs) ≡ playedNothing 19
     last = p .ends (length xs) (omega arith)
 
     pub expands : expand (take used cs) (take used ws) ≡ xs
@@ -85,21 +85,21 @@ module _ (xs cs ws : List ℕ) (used : ℕ) where
 -- ---- the runs are the shortest
 
 module _ (xs : List ℕ) where
-  pub counts-many : length (countsOf (runs xs)) ≡ length (runs xs)
-  counts-many = length-map (runs xs) countOf
+  pub counts-many : length (stepCounts (runs xs)) ≡ length (runs xs)
+  counts-many = length-map (runs xs) stepCount
 
-  pub words-many : length (wordsOf (runs xs)) ≡ length (runs xs)
-  words-many = length-map (runs xs) wordOf
+  pub words-many : length (stepWords (runs xs)) ≡ length (runs xs)
+  words-many = length-map (runs xs) stepWord
 
   -- with anything after them
-  pub encoded : (a b : List ℕ) → Plays xs (countsOf (runs xs) ++ a) (wordsOf (runs xs) ++ b) (length (runs xs))
+  pub encoded : (a b : List ℕ) → Plays xs (stepCounts (runs xs) ++ a) (stepWords (runs xs) ++ b) (length (runs xs))
   encoded a b =
-      plays-of xs (countsOf (runs xs) ++ a) (wordsOf (runs xs) ++ b) (length (runs xs))
-      (omega (arith, counts-many, length-append (countsOf (runs xs)) a))
-      (omega (arith, words-many, length-append (wordsOf (runs xs)) b))
-      (rw (take-at (countsOf (runs xs)) a (length (runs xs)) counts-many, take-at (wordsOf (runs xs)) b (length (runs xs)) words-many)
+      plays-of xs (stepCounts (runs xs) ++ a) (stepWords (runs xs) ++ b) (length (runs xs))
+      (omega (arith, counts-many, length-append (stepCounts (runs xs)) a))
+      (omega (arith, words-many, length-append (stepWords (runs xs)) b))
+      (rw (take-at (stepCounts (runs xs)) a (length (runs xs)) counts-many, take-at (stepWords (runs xs)) b (length (runs xs)) words-many)
       (runs-expand xs))
 
   -- with nothing after them
-  pub encoded-whole : Plays xs (countsOf (runs xs)) (wordsOf (runs xs)) (length (runs xs))
-  encoded-whole = rw (append-nil (countsOf (runs xs)), append-nil (wordsOf (runs xs))) at (encoded [] [])
+  pub encoded-whole : Plays xs (stepCounts (runs xs)) (stepWords (runs xs)) (length (runs xs))
+  encoded-whole = rw (append-nil (stepCounts (runs xs)), append-nil (stepWords (runs xs))) at (encoded [] [])

@@ -34,7 +34,7 @@ unfolding leading leadingIn decimal
 leading-more zero h = absurd (omega arith)
 leading-more (suc m) h = rw (in-enough m (suc m / 10) (suc m / 10) (omega arith) (omega arith))
 
--- ---- the number is told
+-- ---- the number is spelt
 
 pub value-append : (a : ℕ) (s t : List ℕ) → valueAfter a (s ++ t) ≡ valueAfter (valueAfter a s) t
 unfolding valueAfter
@@ -159,7 +159,7 @@ pub record Spells (n : ℕ) (s : List ℕ) (from rest : ℕ) : Type 0 where
   pub inside : from < 20
   pub sized : length s ≡ 20
   pub few : rest < 10 ^ from
-  pub told : leading rest ++ drop from s ≡ decimal n
+  pub spelt : leading rest ++ drop from s ≡ decimal n
 
 pub spells-first : (n : ℕ) (s : List ℕ) → n < 2 ^ 64 → length s ≡ 20 → Spells n (set s 19 (digit (n % 10))) 19 (n / 10)
 unfolding decimal
@@ -168,7 +168,7 @@ spells-first n s h e =
       inside = omega arith;
       sized = simp length-set e;
       few = omega arith;
-      told = rw (drop-set s 19 (digit (n % 10)) (omega arith), drop-of-length-le s {i = 20} (omega arith));
+      spelt = rw (drop-set s 19 (digit (n % 10)) (omega arith), drop-of-length-le s {i = 20} (omega arith));
     }
 
 pub spells-some : {n rest : ℕ} {s : List ℕ} (from : ℕ) → Spells n s from rest → 0 < rest → 0 < from
@@ -184,10 +184,10 @@ spells-back n rest f s p h =
       inside = omega (arith, p .inside);
       sized = simp length-set (p .sized);
       few = omega arith;
-      told =
+      spelt =
           rw (drop-set s f (digit (rest % 10)) (omega (arith, p .inside, p .sized)))
           (sym (append-assoc (leading (rest / 10)) (digit (rest % 10) ∷ []) (drop (suc f) s))
-          ∙ ap (λ (t : List ℕ). t ++ drop (suc f) s) (sym (leading-more rest h)) ∙ p .told);
+          ∙ ap (λ (t : List ℕ). t ++ drop (suc f) s) (sym (leading-more rest h)) ∙ p .spelt);
     }
 
 pub spells-more :
@@ -198,4 +198,4 @@ spells-more {n} {rest} {from} {s} p h =
     spells-back n rest (from - 1) s (rw e p) h
 
 pub spells-last : {n : ℕ} {s : List ℕ} {from rest : ℕ} → Spells n s from rest → rest ≤ 0 → drop from s ≡ decimal n
-spells-last {n} {s} {from} {rest} p h = rw (leading-none rest h) at (p .told)
+spells-last {n} {s} {from} {rest} p h = rw (leading-none rest h) at (p .spelt)

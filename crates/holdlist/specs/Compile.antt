@@ -1,30 +1,21 @@
 -- What compiling answers, and leaves in the two lent lists: of any list of words, and of a profile's field.
 -- Assumes nothing.
-use Prim.Native.Nat.{ℕ, _+_, _-_, min}
+use Prim.Native.Nat.{ℕ, min}
+use mathlib.Core.Path.{_≡_}
 use mathlib.Core.List.{List}
 use mathlib.Core.Bool.{cond}
 use lib.ListN.{length}
 use lib.Dec.{leb}
-use Rattle.profile.specs.Lists.{chunks, over}
+use Rattle.profile.specs.Lists.{over}
 use Rattle.profile.specs.Values.{accepted, refused, accepts}
-use Rattle.profile.specs.Geometry.{firstLine, endLine}
 use Rattle.profile.specs.Rules.{checkProfile}
-use Rattle.profile.specs.declared.Tables.{Tables}
-use Rattle.profile.specs.declared.Field.{Field}
 use Rattle.profile.specs.declared.Profile.{Profile}
 use Rattle.profile.specs.declared.Verdict.{Verdict}
-use Rattle.level.specs.Fieldwords.{wordsOf, fieldWords}
+use Rattle.level.specs.Fieldwords.{fieldWords}
 use Rattle.holdlist.specs.declared.Step.{Step}
 use Rattle.holdlist.specs.declared.Compiled.{Compiled}
-use Rattle.holdlist.specs.Runs
-use Rattle.holdlist.specs.Runs.{runs, countsOf}
-
--- the words of n lines from line a on, and of region i: "The lists are filled region by region"
-unfoldable pub linesWords : Tables → Field → ℕ → ℕ → List ℕ
-linesWords t f a n = chunks n (λ k. wordsOf t f (a + k))
-
-abbrev pub regionWords : Tables → Field → ℕ → List ℕ
-regionWords t f i = linesWords t f (firstLine f i) (endLine f i - firstLine f i)
+use Rattle.holdlist.specs.Runs.{runs, stepCounts, stepWords}
+use Rattle.holdlist.specs.Demand.{Demand}
 
 -- "room is the shorter length"
 abbrev pub roomOf : List ℕ → List ℕ → ℕ
@@ -46,10 +37,10 @@ holdAnswer xs room =
 
 -- "a refused .. compile changes no lent .. entry. After success, entries past the used ones keep what they held."
 unfoldable pub holdCounts : List ℕ → ℕ → List ℕ → List ℕ
-holdCounts xs room counts = cond (accepts (holdVerdict xs room)) (over (countsOf (runs xs)) counts) counts
+holdCounts xs room counts = cond (accepts (holdVerdict xs room)) (over (stepCounts (runs xs)) counts) counts
 
 unfoldable pub holdWords : List ℕ → ℕ → List ℕ → List ℕ
-holdWords xs room words = cond (accepts (holdVerdict xs room)) (over (Runs.wordsOf (runs xs)) words) words
+holdWords xs room words = cond (accepts (holdVerdict xs room)) (over (stepWords (runs xs)) words) words
 
 -- ---- a profile's field: the check's refusal, which leaves both lists as they were, or its words held
 
@@ -69,3 +60,11 @@ compileCounts p room counts = cond (accepts (checkProfile p)) (holdCounts (profi
 
 unfoldable pub compileWords : Profile → ℕ → List ℕ → List ℕ
 compileWords p room words = cond (accepts (checkProfile p)) (holdWords (profileWords p) room words) words
+
+-- what compile ensures: r is answered for the profile p where the lists are cs and ws, which are cs′ and ws′ then
+pub record Compiles (p : Profile) (cs ws : List ℕ) (r : Compiled) (cs′ ws′ : List ℕ) : Type 0 where
+  pub answer : r ≡ compileAnswer p (roomOf cs ws)
+  pub counts : cs′ ≡ compileCounts p (roomOf cs ws) cs
+  pub words : ws′ ≡ compileWords p (roomOf cs ws) ws
+  -- demand 3
+  pub demand : checkProfile p ≡ accepted → Demand (profileWords p) cs ws r cs′ ws′

@@ -13,13 +13,13 @@ use Rattle.level.specs.Line.{lineOf}
 use Rattle.level.specs.Word.{wordOf}
 use Rattle.level.specs.Place.{lineAt, pixelAt}
 use Rattle.holdlist.specs.declared.Compiled.{Compiled}
-use Rattle.holdlist.specs.Play.{playAnswer, shown, notShown}
+use Rattle.holdlist.specs.Play.{playAnswer, playedWord, playedNothing}
 
 -- "with all its steps used, position n shows the word of field pixel n for every n below the field's pixel count .., and every other position is
 -- 19". Code asks at u64 positions and this at every number: the same, since after a position that is 19 every one is (proofs/Demanded.antt: plays-asked).
 pub record Plays (xs cs ws : List ℕ) (used : ℕ) : Type 0 where
-  pub shows : (n : ℕ) → n < length xs → playAnswer cs ws used n ≡ shown (getD xs n 0)
-  pub ends : (n : ℕ) → length xs ≤ n → playAnswer cs ws used n ≡ notShown 19
+  pub shows : (n : ℕ) → n < length xs → playAnswer cs ws used n ≡ playedWord (getD xs n 0)
+  pub ends : (n : ℕ) → length xs ≤ n → playAnswer cs ws used n ≡ playedNothing 19
 
 -- "the fewest of any list that plays the field": a list that can be lent reaches k, and no list of numbers has fewer
 pub record Fewest (xs : List ℕ) (k : ℕ) : Type 0 where
@@ -51,5 +51,5 @@ pub record Demand (xs cs ws : List ℕ) (r : Compiled) (cs′ ws′ : List ℕ) 
 
 -- a list plays a field: what `Plays` says of the field's words (proofs/Demanded.antt: plays-field), by the field's lines and pixels
 pub record PlaysField (t : Tables) (f : Field) (cs ws : List ℕ) (used : ℕ) : Type 0 where
-  pub shows : (n : ℕ) → n < pixelCount t f → playAnswer cs ws used n ≡ shown (wordOf (lineOf t f (lineAt t f n)) (pixelAt t f n))
-  pub ends : (n : ℕ) → pixelCount t f ≤ n → playAnswer cs ws used n ≡ notShown 19
+  pub shows : (n : ℕ) → n < pixelCount t f → playAnswer cs ws used n ≡ playedWord (wordOf (lineOf t f (lineAt t f n)) (pixelAt t f n))
+  pub ends : (n : ℕ) → pixelCount t f ≤ n → playAnswer cs ws used n ≡ playedNothing 19

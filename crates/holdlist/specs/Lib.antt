@@ -1,7 +1,7 @@
 pub mod Play
 pub mod Runs
-pub mod Compile
 pub mod Demand
+pub mod Compile
 pub mod Fills
 pub mod Text
 pub mod Readback

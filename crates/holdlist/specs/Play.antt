@@ -8,23 +8,23 @@ use lib.Dec.{ltb, leb}
 use Rattle.profile.specs.Values.{accepted, refused}
 use Rattle.holdlist.specs.declared.Played.{Played}
 
-abbrev pub shown : ℕ → Played
-shown w = record { verdict = accepted; word = w }
+abbrev pub playedWord : ℕ → Played
+playedWord w = record { verdict = accepted; word = w }
 
 -- "a refused .. play gives word 0"
-abbrev pub notShown : ℕ → Played
-notShown number = record { verdict = refused number 0; word = 0 }
+abbrev pub playedNothing : ℕ → Played
+playedNothing number = record { verdict = refused number 0; word = 0 }
 
 -- "position n shows the word of the step in which the running sum first exceeds n; where no step's does, 19"
 unfoldable pub walk : List ℕ → List ℕ → ℕ → Played
-walk [] ws n = notShown 19
-walk (c ∷ cs) [] n = notShown 19
-walk (c ∷ cs) (w ∷ ws) n = cond (ltb n c) (shown w) (walk cs ws (n - c))
+walk [] ws n = playedNothing 19
+walk (c ∷ cs) [] n = playedNothing 19
+walk (c ∷ cs) (w ∷ ws) n = cond (ltb n c) (playedWord w) (walk cs ws (n - c))
 
 -- the first `used` steps; 20 where that exceeds a lent list
 unfoldable pub playAnswer : List ℕ → List ℕ → ℕ → ℕ → Played
 playAnswer cs ws used n =
-    cond (leb used (length cs) && leb used (length ws)) (walk (take used cs) (take used ws) n) (notShown 20)
+    cond (leb used (length cs) && leb used (length ws)) (walk (take used cs) (take used ws) n) (playedNothing 20)
 
 -- all the words that the steps show
 unfoldable pub expand : List ℕ → List ℕ → List ℕ

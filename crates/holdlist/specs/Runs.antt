@@ -32,14 +32,14 @@ closed o (x ∷ xs) = shut o x ++ closed (pushed o x) xs
 unfoldable pub runs : List ℕ → List Step
 runs xs = closed none xs ++ flush (opened none xs)
 
-abbrev pub countOf : Step → ℕ
-countOf o = o .count
+abbrev pub stepCount : Step → ℕ
+stepCount o = o .count
 
-abbrev pub wordOf : Step → ℕ
-wordOf o = o .word
+abbrev pub stepWord : Step → ℕ
+stepWord o = o .word
 
-abbrev pub countsOf : List Step → List ℕ
-countsOf s = map countOf s
+abbrev pub stepCounts : List Step → List ℕ
+stepCounts s = map stepCount s
 
-abbrev pub wordsOf : List Step → List ℕ
-wordsOf s = map wordOf s
+abbrev pub stepWords : List Step → List ℕ
+stepWords s = map stepWord s

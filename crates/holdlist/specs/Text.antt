@@ -1,7 +1,7 @@
 -- What the program prints, in ASCII: "`steps S pixels P`, then each step as decimal count, space, four upper-case hex digits; or `refused N P` alone; LF
 -- ends each line".
 -- Assumes nothing.
-use Prim.Native.Nat.{ℕ, zero, suc, _+_, _*_, _-_, _/_, _%_, min, max}
+use Prim.Native.Nat.{ℕ, zero, suc, _+_, _*_, _-_, _/_, _%_, _≤_, min, max}
 use mathlib.Core.Path.{_≡_}
 use mathlib.Core.List.{List, [], _∷_, _++_}
 use mathlib.Core.Bool.{cond}
@@ -13,7 +13,7 @@ use Rattle.profile.specs.Values.{accepts}
 use Rattle.profile.specs.Script.{readScript}
 use Rattle.profile.specs.declared.Profile.{Profile}
 use Rattle.holdlist.specs.declared.Compiled.{Compiled}
-use Rattle.holdlist.specs.Runs.{countsOf, wordsOf}
+use Rattle.holdlist.specs.Runs.{stepCounts, stepWords}
 use Rattle.holdlist.specs.Compile.{fieldRuns, roomOf, compileAnswer}
 
 -- ---- numbers
@@ -82,13 +82,13 @@ unfoldable pub listing : ℕ → ℕ → List ℕ → List ℕ → List ℕ
 listing steps pixels cs ws = headLine steps pixels ++ chunks (min steps (roomOf cs ws)) (stepLineAt cs ws)
 
 -- a compile's answer beside the two lists
-unfoldable pub told : Compiled → List ℕ → List ℕ → List ℕ
-told c cs ws =
+unfoldable pub printedAnswer : Compiled → List ℕ → List ℕ → List ℕ
+printedAnswer c cs ws =
     cond (accepts (c .verdict)) (listing (c .steps) (c .pixels) cs ws) (refusedLine (c .verdict .number) (c .verdict .place))
 
 -- what is printed for a script; "has room for 4,096 steps"
 unfoldable pub printedOf : Profile → List ℕ
-printedOf p = told (compileAnswer p 4096) (countsOf (fieldRuns p)) (wordsOf (fieldRuns p))
+printedOf p = printedAnswer (compileAnswer p 4096) (stepCounts (fieldRuns p)) (stepWords (fieldRuns p))
 
 unfoldable pub printed : List ℕ → List ℕ
 printed script =
@@ -101,3 +101,8 @@ printed script =
 pub record Puts (bytes old : List ℕ) (at next : ℕ) (new : List ℕ) : Type 0 where
   pub stored : new ≡ sets old at bytes
   pub ended : next ≡ max at (min (at + length bytes) (length old))
+
+-- what is printed of a compile's answer and its lists is stored: at most a head line and 16 bytes a step
+pub record PutsPrinted (c : Compiled) (cs ws old : List ℕ) (at next : ℕ) (new : List ℕ) : Type 0 where
+  pub puts : Puts (printedAnswer c cs ws) old at next new
+  pub short : length (printedAnswer c cs ws) ≤ 55 + 16 * roomOf cs ws

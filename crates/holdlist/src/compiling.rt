@@ -1,10 +1,5 @@
 // A field compiled into the shortest hold list, in two passes of one writer: the first is given no room and counts, the second fills.
-ghost use mathlib.Core.Path.{_≡_};
-ghost use lib.ListN.{length};
-ghost use Rattle.profile.specs.Values.{accepted};
-ghost use Rattle.profile.specs.Rules.{checkProfile};
-ghost use Rattle.holdlist.specs.Compile.{roomOf, profileWords, compileAnswer, compileCounts, compileWords};
-ghost use Rattle.holdlist.specs.Demand.{Demand};
+ghost use Rattle.holdlist.specs.Compile.{Compiles};
 use crate::Compiled;
 use crate::filling::fill_field;
 use crate::steps::least;
@@ -16,10 +11,7 @@ use profile::refuse;
 
 // Compiles a profile's field into two lent lists: the check's refusal, 18 with the steps needed, or the steps used and the pixels.
 pub fn compile(profile: Profile, counts: &mut [u32], words: &mut [u16]) -> Compiled
-    ensures { λ r. ⌜ r ≡ compileAnswer profile (roomOf (now (counts .entry)) (now (words .entry))) ⌝ }
-    ensures { λ r. ⌜ now (counts .exit) ≡ compileCounts profile (roomOf (now (counts .entry)) (now (words .entry))) (now (counts .entry)) ⌝ }
-    ensures { λ r. ⌜ now (words .exit) ≡ compileWords profile (roomOf (now (counts .entry)) (now (words .entry))) (now (words .entry)) ⌝ }
-    ensures { λ r. ⌜ (checkProfile profile ≡ accepted → Demand (profileWords profile) (now (counts .entry)) (now (words .entry)) r (now (counts .exit)) (now (words .exit))) ⌝ }
+    ensures { λ r. ⌜ Compiles profile (now (counts .entry)) (now (words .entry)) r (now (counts .exit)) (now (words .exit)) ⌝ }
 {
     let verdict = check(profile);
     if verdict.number != 0 {

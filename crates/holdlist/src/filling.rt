@@ -2,13 +2,10 @@
 ghost use mathlib.Core.Path.{_≡_};
 ghost use Prim.Native.Nat.{ℕ, _+_, _<_, _≤_, _^_};
 ghost use lib.ListN.{length, getD};
-ghost use Rattle.profile.specs.Values.{accepted};
 ghost use Rattle.profile.specs.Geometry.{regionCount, lineLength};
-ghost use Rattle.profile.specs.Rules.{checkProfile};
 ghost use Rattle.level.specs.Fieldwords.{lineWords, fieldWords};
-ghost use Rattle.holdlist.specs.Compile.{linesWords, regionWords};
-ghost use Rattle.holdlist.specs.Runs.{none, runs};
-ghost use Rattle.holdlist.specs.Fills.{Lays, Fills, Alike, same};
+ghost use Rattle.holdlist.specs.Runs.{runs};
+ghost use Rattle.holdlist.specs.Fills.{Fillable, linesWords, regionWords, Writes, Fills, Alike, same};
 use crate::Step;
 use crate::steps::Filled;
 use crate::steps::finish;
@@ -166,7 +163,7 @@ fn fill_region(
     counts: &mut [u32],
     words: &mut [u16],
 ) -> Filled
-    requires { ⌜ checkProfile (record { tables = tables; field = field }) ≡ accepted ⌝ }
+    requires { ⌜ Fillable tables field ⌝ }
     requires { ⌜ i < regionCount field ⌝ }
     requires { ⌜ o .count + length (regionWords tables field i) < 2 ^ 32 ⌝ }
     ensures { λ r. ⌜ Fills o (regionWords tables field i) (now (counts .entry)) (now (words .entry)) (r .steps) (r .held) (now (counts .exit)) (now (words .exit)) ⌝ }
@@ -177,13 +174,20 @@ fn fill_region(
     fill_lines(tables, field, first as u64, n as u64, o, counts, words)
 }
 
-// All regions in order.
-fn fill_regions(tables: Tables, field: Field, counts: &mut [u32], words: &mut [u16]) -> Filled
-    requires { ⌜ checkProfile (record { tables = tables; field = field }) ≡ accepted ⌝ }
-    ensures { λ r. ⌜ Fills none (fieldWords tables field) (now (counts .entry)) (now (words .entry)) (r .steps) (r .held) (now (counts .exit)) (now (words .exit)) ⌝ }
+// All regions in order, pushed onto the open step.
+fn fill_regions(
+    tables: Tables,
+    field: Field,
+    o: Step,
+    counts: &mut [u32],
+    words: &mut [u16],
+) -> Filled
+    requires { ⌜ Fillable tables field ⌝ }
+    requires { ⌜ o .count + length (fieldWords tables field) < 2 ^ 32 ⌝ }
+    ensures { λ r. ⌜ Fills o (fieldWords tables field) (now (counts .entry)) (now (words .entry)) (r .steps) (r .held) (now (counts .exit)) (now (words .exit)) ⌝ }
 {
     let n = region_count(field);
-    let mut held = Step { count: 0, word: 0 };
+    let mut held = o;
     let mut used: usize = 0;
     let mut i: usize = 0;
     while i < n {
@@ -205,10 +209,11 @@ pub(crate) fn fill_field(
     counts: &mut [u32],
     words: &mut [u16],
 ) -> usize
-    requires { ⌜ checkProfile (record { tables = tables; field = field }) ≡ accepted ⌝ }
-    ensures { λ r. ⌜ Lays (runs (fieldWords tables field)) (now (counts .entry)) (now (words .entry)) r (now (counts .exit)) (now (words .exit)) ⌝ }
+    requires { ⌜ Fillable tables field ⌝ }
+    ensures { λ r. ⌜ Writes (runs (fieldWords tables field)) (now (counts .entry)) (now (words .entry)) r (now (counts .exit)) (now (words .exit)) ⌝ }
 {
-    let filled = fill_regions(tables, field, counts, words);
+    let empty = Step { count: 0, word: 0 };
+    let filled = fill_regions(tables, field, empty, counts, words);
     let used = filled.steps;
     let held = filled.held;
     let c = least(used, counts.len());

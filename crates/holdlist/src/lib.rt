@@ -9,16 +9,16 @@ mod text;
 
 pub use compiling::compile;
 pub use playing::play;
-pub use text::put;
 pub use text::put_byte;
+pub use text::put_bytes;
 pub use text::put_decimal;
 pub use text::put_head_line;
 pub use text::put_hex2;
 pub use text::put_hex4;
 pub use text::put_listing;
+pub use text::put_printed;
 pub use text::put_refused_line;
 pub use text::put_step_line;
-pub use text::put_told;
 
 // A word held for a number of positions.
 pub struct Step {

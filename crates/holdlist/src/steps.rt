@@ -4,7 +4,7 @@ ghost use mathlib.Core.List.{[], _∷_};
 ghost use Prim.Native.Nat.{_+_, _<_, _^_, min};
 ghost use lib.ListN.{replicate};
 ghost use Rattle.holdlist.specs.Runs.{flush};
-ghost use Rattle.holdlist.specs.Fills.{lay, Lays, Fills};
+ghost use Rattle.holdlist.specs.Fills.{overFit, Writes, Fills};
 use crate::Step;
 
 // How many steps were closed, and the step that is open now.
@@ -21,7 +21,7 @@ pub(crate) fn least(a: usize, b: usize) -> usize
 
 // A number at the front of a list, where the list has a place.
 fn put_count(counts: &mut [u32], count: u32)
-    ensures { λ _. ⌜ now (counts .exit) ≡ lay (count ∷ []) (now (counts .entry)) ⌝ }
+    ensures { λ _. ⌜ now (counts .exit) ≡ overFit (count ∷ []) (now (counts .entry)) ⌝ }
 {
     if 0 < counts.len() {
         counts[0] = count;
@@ -29,7 +29,7 @@ fn put_count(counts: &mut [u32], count: u32)
 }
 
 fn put_word(words: &mut [u16], word: u16)
-    ensures { λ _. ⌜ now (words .exit) ≡ lay (word ∷ []) (now (words .entry)) ⌝ }
+    ensures { λ _. ⌜ now (words .exit) ≡ overFit (word ∷ []) (now (words .entry)) ⌝ }
 {
     if 0 < words.len() {
         words[0] = word;
@@ -38,7 +38,7 @@ fn put_word(words: &mut [u16], word: u16)
 
 // The open step is closed, where there is one.
 pub(crate) fn finish(o: Step, counts: &mut [u32], words: &mut [u16]) -> usize
-    ensures { λ r. ⌜ Lays (flush o) (now (counts .entry)) (now (words .entry)) r (now (counts .exit)) (now (words .exit)) ⌝ }
+    ensures { λ r. ⌜ Writes (flush o) (now (counts .entry)) (now (words .entry)) r (now (counts .exit)) (now (words .exit)) ⌝ }
 {
     if o.count == 0 {
         return 0;

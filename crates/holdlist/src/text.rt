@@ -1,10 +1,10 @@
-// The text that the program prints, put into a lent slice from a place on. What has no room is left out; each function gives the place after what it put.
+// The text that the program prints, put into a lent slice from a place on. What has no room is left out.
+// Each function gives the place after what it put.
 ghost use mathlib.Core.Path.{_≡_};
 ghost use mathlib.Core.List.{[], _∷_};
-ghost use Prim.Native.Nat.{_+_, _*_, _<_, _≤_};
+ghost use Prim.Native.Nat.{_<_};
 ghost use lib.ListN.{length, drop};
-ghost use Rattle.holdlist.specs.Compile.{roomOf};
-ghost use Rattle.holdlist.specs.Text.{digit as digitText, decimal, hexDigit, hex2, hex4, headLine, stepLine, refusedLine, listing, told, Puts};
+ghost use Rattle.holdlist.specs.Text.{digit as digitText, decimal, hexDigit, hex2, hex4, headLine, stepLine, refusedLine, listing, Puts, PutsPrinted};
 use crate::Compiled;
 use crate::steps::least;
 
@@ -21,7 +21,7 @@ pub fn put_byte(out: &mut [u8], at: usize, byte: u8) -> usize
 }
 
 // Bytes one after another.
-pub fn put(out: &mut [u8], at: usize, bytes: &[u8]) -> usize
+pub fn put_bytes(out: &mut [u8], at: usize, bytes: &[u8]) -> usize
     ensures { λ r. ⌜ Puts (now (bytes .entry)) (now (out .entry)) at r (now (out .exit)) ⌝ }
 {
     let mut to = at;
@@ -62,7 +62,7 @@ pub fn put_decimal(out: &mut [u8], at: usize, n: u64) -> usize
 {
     let mut digits = [0u8; 20];
     let from = spell(n, &mut digits);
-    put(out, at, &digits[from..])
+    put_bytes(out, at, &digits[from..])
 }
 
 fn hex_digit(d: u16) -> u8
@@ -81,7 +81,7 @@ pub fn put_hex4(out: &mut [u8], at: usize, word: u16) -> usize
         hex_digit(word / 16 % 16),
         hex_digit(word % 16),
     ];
-    put(out, at, &digits)
+    put_bytes(out, at, &digits)
 }
 
 pub fn put_hex2(out: &mut [u8], at: usize, byte: u8) -> usize
@@ -89,15 +89,15 @@ pub fn put_hex2(out: &mut [u8], at: usize, byte: u8) -> usize
 {
     let n = byte as u16;
     let digits = [hex_digit(n / 16), hex_digit(n % 16)];
-    put(out, at, &digits)
+    put_bytes(out, at, &digits)
 }
 
 pub fn put_head_line(out: &mut [u8], at: usize, steps: usize, pixels: u64) -> usize
     ensures { λ r. ⌜ Puts (headLine steps pixels) (now (out .entry)) at r (now (out .exit)) ⌝ }
 {
-    let a = put(out, at, b"steps ");
+    let a = put_bytes(out, at, b"steps ");
     let b = put_decimal(out, a, steps as u64);
-    let c = put(out, b, b" pixels ");
+    let c = put_bytes(out, b, b" pixels ");
     let d = put_decimal(out, c, pixels);
     put_byte(out, d, 10)
 }
@@ -114,7 +114,7 @@ pub fn put_step_line(out: &mut [u8], at: usize, count: u32, word: u16) -> usize
 pub fn put_refused_line(out: &mut [u8], at: usize, number: u16, place: u64) -> usize
     ensures { λ r. ⌜ Puts (refusedLine number place) (now (out .entry)) at r (now (out .exit)) ⌝ }
 {
-    let a = put(out, at, b"refused ");
+    let a = put_bytes(out, at, b"refused ");
     let b = put_decimal(out, a, number as u64);
     let c = put_byte(out, b, 32);
     let d = put_decimal(out, c, place);
@@ -143,9 +143,14 @@ pub fn put_listing(
 }
 
 // What is printed of a compile's answer and the lists that it left: at most a head line and 16 bytes a step.
-pub fn put_told(out: &mut [u8], at: usize, answer: Compiled, counts: &[u32], words: &[u16]) -> usize
-    ensures { λ r. ⌜ Puts (told answer (now (counts .entry)) (now (words .entry))) (now (out .entry)) at r (now (out .exit)) ⌝ }
-    ensures { λ r. ⌜ length (told answer (now (counts .entry)) (now (words .entry))) ≤ 55 + 16 * roomOf (now (counts .entry)) (now (words .entry)) ⌝ }
+pub fn put_printed(
+    out: &mut [u8],
+    at: usize,
+    answer: Compiled,
+    counts: &[u32],
+    words: &[u16],
+) -> usize
+    ensures { λ r. ⌜ PutsPrinted answer (now (counts .entry)) (now (words .entry)) (now (out .entry)) at r (now (out .exit)) ⌝ }
 {
     let verdict = answer.verdict;
     if verdict.number == 0 {

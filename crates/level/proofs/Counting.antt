@@ -2,8 +2,8 @@
 -- Levels stay while no further key or edge is passed.
 -- Assumes nothing.
 use mathlib.Core.Path.{_≡_, refl, sym, ap, subst, _∙_}
-use mathlib.Core.Bool.{Bool, true, false, cond, not, _&&_}
-use mathlib.Core.List.{List, [], _∷_, _++_}
+use mathlib.Core.Bool.{Bool, true, false, cond, _&&_}
+use mathlib.Core.List.{List, [], _∷_, _++_, map}
 use Prim.Native.Nat.{ℕ, zero, suc, _+_, _-_, _*_, _/_, _%_, _≤_, _<_}
 use native.Mathlib.Nat.{le-div-iff-mul-le, mod-lt, mul-le-mul, mul-zero, div-one}
 use native.Mathlib.Numerals.{add-one}
@@ -14,9 +14,8 @@ use lib.ListN.{length, getD, take, set}
 use lib.Seq.{take-suc-set}
 use Rattle.profile.proofs.Laws.{cond-case, by-cases, chunks-more}
 use Rattle.profile.specs.Lists.{chunks}
-use Rattle.profile.specs.Patterns.{threeAt, rowOf, rowsOf, used}
-use Rattle.profile.specs.declared.Mode.{Mode}
-use Rattle.profile.specs.declared.Mode.the-variants.{Plain, Multiplier}
+use Rattle.profile.specs.Patterns.{rowOf, rowsOf, not4095, used}
+use Rattle.profile.specs.declared.Mode.the-variants.{Plain}
 use Rattle.profile.specs.declared.Pattern.{Pattern}
 use Rattle.level.specs.declared.Line.{Line}
 use Rattle.level.specs.Word.{
@@ -122,7 +121,7 @@ used-key m x small ne =
     (λ d. let md = ltb-false m 65535 d in ltb-iff (x - 1) 65535 x m (λ g. omega arith) (λ g. omega arith))))
 
 -- multiplier and second pattern: the toggles up to m
-key-toggle : (m x : ℕ) → x < 65536 → ltb (keyOf x) (countTo m) ≡ not (eqb x 4095) && leb x m
+key-toggle : (m x : ℕ) → x < 65536 → ltb (keyOf x) (countTo m) ≡ not4095 x && leb x m
 key-toggle m x small =
     by-cases (eqb x 4095)
     (λ e. rw e (le-ltb 65535 (countTo m) (count-small m)))
@@ -130,22 +129,21 @@ key-toggle m x small =
 
 -- ---- one output: its three keys, each by the same law, and its level
 
--- the rows of toggles and of keys
+-- the keys of an output's toggles
 abbrev keyRow : (ℕ → ℕ) → Pattern → ℕ → List ℕ
-keyRow key a k =
-    key (getD (a .toggles) (3 * k) 0) ∷ key (getD (a .toggles) (3 * k + 1) 0) ∷ key (getD (a .toggles) (3 * k + 2) 0) ∷ []
+keyRow key a k = map key (rowOf (a .toggles) k)
 
 -- toggles of 16 bits
 abbrev pub Small : List ℕ → Type 0
 Small l = (i : ℕ) → getD l i 0 < 65536
 
-counted : (key : ℕ → ℕ) (m : Mode) (n length scale t : ℕ) (a : Pattern) (k : ℕ) → Small (a .toggles)
-    → ((x : ℕ) → x < 65536 → ltb (key x) n ≡ used m length x && leb (x * scale) t)
-    → passed n (keyRow key a k) ≡ flips m length scale (rowOf a k) t
-counted key m n length scale t a k small law =
+counted : (key : ℕ → ℕ) (uses : ℕ → Bool) (n scale t : ℕ) (a : Pattern) (k : ℕ) → Small (a .toggles)
+    → ((x : ℕ) → x < 65536 → ltb (key x) n ≡ uses x && leb (x * scale) t)
+    → passed n (keyRow key a k) ≡ flips uses scale (rowOf (a .toggles) k) t
+counted key uses n scale t a k small law =
     λ i. bit (one (3 * k) i) + bit (one (3 * k + 1) i) + bit (one (3 * k + 2) i)
   where
-    one : (j : ℕ) → ltb (key (getD (a .toggles) j 0)) n ≡ used m length (getD (a .toggles) j 0) && leb (getD (a .toggles) j 0 * scale) t
+    one : (j : ℕ) → ltb (key (getD (a .toggles) j 0)) n ≡ uses (getD (a .toggles) j 0) && leb (getD (a .toggles) j 0 * scale) t
     one j = law (getD (a .toggles) j 0) (small j)
 
 -- nothing is passed by the count 0
@@ -196,20 +194,20 @@ times-far start length q hs hl =
 abbrev runAt : Pattern → ℕ → ℕ → ℕ → ℕ → List ℕ → ℕ
 runAt a start r q y row =
     cond (ltb q start) y
-    (cond (ltb (q - start) (r * a .length)) (flipped y (flips Plain (a .length) 1 row ((q - start) % a .length))) y)
+    (cond (ltb (q - start) (r * a .length)) (flipped y (flips (used Plain (a .length)) 1 row ((q - start) % a .length))) y)
 
 abbrev timesAt : Pattern → ℕ → ℕ → ℕ → List ℕ → ℕ
-timesAt a start q y row = cond (ltb q start) y (flipped y (flips Multiplier (a .length) (a .length) row (q - start)))
+timesAt a start q y row = cond (ltb q start) y (flipped y (flips not4095 (a .length) row (q - start)))
 
 abbrev lateAt : Pattern → ℕ → ℕ → List ℕ → ℕ
-lateAt a p y row = flipped y (flips Multiplier (a .length) 1 row (p - a .length))
+lateAt a p y row = flipped y (flips not4095 1 row (p - a .length))
 
 module _ (a : Pattern) (small : Small (a .toggles)) where
   run-out : (start r q x k : ℕ)
-      → flipped x (passed (runCount start (a .length) r q) (keyRow (λ y. y) a k)) ≡ runAt a start r q (x % 2) (rowOf a k)
+      → flipped x (passed (runCount start (a .length) r q) (keyRow (λ y. y) a k)) ≡ runAt a start r q (x % 2) (rowOf (a .toggles) k)
   run-out start r q x k =
       push F (ltb q start) _ _
-      ∙ by-test (ltb q start) (λ e. still x (rowOf a k))
+      ∙ by-test (ltb q start) (λ e. still x (rowOf (a .toggles) k))
       (λ e.
       push F (ltb (q - start) (r * a .length)) _ _
       ∙ by-test (ltb (q - start) (r * a .length))
@@ -217,29 +215,29 @@ module _ (a : Pattern) (small : Small (a .toggles)) where
       let pos = run-has-length r (a .length) (q - start) (ltb-true (q - start) (r * a .length) h) in
       low-bit x _
       ∙ ap (flipped (x % 2))
-      (counted (λ y. y) Plain ((q - start) % a .length + 1) (a .length) 1 ((q - start) % a .length) a k small
+      (counted (λ y. y) (used Plain (a .length)) ((q - start) % a .length + 1) 1 ((q - start) % a .length) a k small
       (λ y l. run-toggle (a .length) ((q - start) % a .length) y (mod-lt (q - start) pos))))
-      (λ h. still x (rowOf a k)))
+      (λ h. still x (rowOf (a .toggles) k)))
     where
       F : ℕ → ℕ
-      F n = flipped x (passed n (rowOf a k))
+      F n = flipped x (passed n (rowOf (a .toggles) k))
 
   -- the toggles up to m are those whose multiple is at or below t
   key-out : (m scale t x k : ℕ) → ((y : ℕ) → y < 65536 → leb y m ≡ leb (y * scale) t)
-      → flipped x (passed (countTo m) (keyRow keyOf a k)) ≡ flipped (x % 2) (flips Multiplier (a .length) scale (rowOf a k) t)
+      → flipped x (passed (countTo m) (keyRow keyOf a k)) ≡ flipped (x % 2) (flips not4095 scale (rowOf (a .toggles) k) t)
   key-out m scale t x k law =
       low-bit x _
       ∙ ap (flipped (x % 2))
-      (counted keyOf Multiplier (countTo m) (a .length) scale t a k small
-      (λ y l. key-toggle m y l ∙ ap (λ b. not (eqb y 4095) && b) (law y l)))
+      (counted keyOf not4095 (countTo m) scale t a k small
+      (λ y l. key-toggle m y l ∙ ap (λ b. not4095 y && b) (law y l)))
 
   times-out : (start q x k : ℕ)
-      → flipped x (passed (timesCount start (a .length) q) (keyRow keyOf a k)) ≡ timesAt a start q (x % 2) (rowOf a k)
+      → flipped x (passed (timesCount start (a .length) q) (keyRow keyOf a k)) ≡ timesAt a start q (x % 2) (rowOf (a .toggles) k)
   times-out start q x k =
       push F (ltb q start) _ _
       ∙ by-test (ltb q start) (λ e. still x (keyRow keyOf a k))
       (λ e.
-      cond-case (λ n. F n ≡ flipped (x % 2) (flips Multiplier (a .length) (a .length) (rowOf a k) (q - start))) (eqb (a .length) 0) _ _
+      cond-case (λ n. F n ≡ flipped (x % 2) (flips not4095 (a .length) (rowOf (a .toggles) k) (q - start))) (eqb (a .length) 0) _ _
       (λ z.
       let none = eqb-true (a .length) 0 z in
       key-out 65535 (a .length) (q - start) x k
@@ -252,18 +250,18 @@ module _ (a : Pattern) (small : Small (a .toggles)) where
       F : ℕ → ℕ
       F n = flipped x (passed n (keyRow keyOf a k))
 
-  late-out : (p x k : ℕ) → flipped x (passed (countTo (p - a .length)) (keyRow keyOf a k)) ≡ lateAt a p (x % 2) (rowOf a k)
+  late-out : (p x k : ℕ) → flipped x (passed (countTo (p - a .length)) (keyRow keyOf a k)) ≡ lateAt a p (x % 2) (rowOf (a .toggles) k)
   late-out p x k =
       key-out (p - a .length) 1 (p - a .length) x k (λ y l. leb-iff y _ (y * 1) _ (λ h. omega arith) (λ h. omega arith))
 
   -- ---- six outputs: what holds of each level and row holds of the word
 
-  six-out : (key : ℕ → ℕ) (n : ℕ) (G : ℕ → List ℕ → ℕ) → ((x k : ℕ) → flipped x (passed n (keyRow key a k)) ≡ G (x % 2) (rowOf a k))
+  six-out : (key : ℕ → ℕ) (n : ℕ) (G : ℕ → List ℕ → ℕ) → ((x k : ℕ) → flipped x (passed n (keyRow key a k)) ≡ G (x % 2) (rowOf (a .toggles) k))
       → sixAt (a .levels)
       (keyRow key a 0 ∷ keyRow key a 1 ∷ keyRow key a 2 ∷ keyRow key a 3 ∷ keyRow key a 4 ∷ keyRow key a 5 ∷ []) n
-      ≡ six (λ k. G (startLevel a k) (rowOf a k))
+      ≡ six (λ k. G (startLevel a k) (rowOf (a .toggles) k))
   six-out key n G f =
-      let first = f (a .levels) 0 ∙ ap (λ y. G (y % 2) (rowOf a 0)) (sym (div-one (a .levels))) in
+      let first = f (a .levels) 0 ∙ ap (λ y. G (y % 2) (rowOf (a .toggles) 0)) (sym (div-one (a .levels))) in
       λ i.
       first i + f (a .levels / 2) 1 i * 2 + f (a .levels / 4) 2 i * 4 + f (a .levels / 8) 3 i * 8 + f (a .levels / 16) 4 i * 16
       + f (a .levels / 32) 5 i * 32
@@ -345,16 +343,16 @@ pub six-stays : (levels : ℕ) (keys : List ℕ) (n last m : ℕ) → Stays (λ 
     → sixAt levels (rowsOf keys) m ≡ sixAt levels (rowsOf keys) n
 six-stays levels keys n last m stays from to =
     λ i.
-    row levels 0 (omega arith) i + row (levels / 2) 3 (omega arith) i * 2 + row (levels / 4) 6 (omega arith) i * 4
-    + row (levels / 8) 9 (omega arith) i * 8
-    + row (levels / 16) 12 (omega arith) i * 16
-    + row (levels / 32) 15 (omega arith) i * 32
+    row levels 0 (omega arith) i + row (levels / 2) 1 (omega arith) i * 2 + row (levels / 4) 2 (omega arith) i * 4
+    + row (levels / 8) 3 (omega arith) i * 8
+    + row (levels / 16) 4 (omega arith) i * 16
+    + row (levels / 32) 5 (omega arith) i * 32
   where
-    row : (x k : ℕ) → k + 2 < 18 → flipped x (passed m (threeAt keys k)) ≡ flipped x (passed n (threeAt keys k))
+    row : (x k : ℕ) → k < 6 → flipped x (passed m (rowOf keys k)) ≡ flipped x (passed n (rowOf keys k))
     row x k h =
-        let a = stays k (omega arith) m from to in
-        let b = stays (k + 1) (omega arith) m from to in
-        let c = stays (k + 2) (omega arith) m from to in
+        let a = stays (3 * k) (omega arith) m from to in
+        let b = stays (3 * k + 1) (omega arith) m from to in
+        let c = stays (3 * k + 2) (omega arith) m from to in
         λ i. flipped x (bit (a i) + bit (b i) + bit (c i))
 
 -- eight outputs that stay
@@ -383,13 +381,13 @@ six-cond true f g = refl
 six-cond false f g = refl
 
 -- V1 to V6, by what the two patterns made ready say
-pub unmasked-word : (l : Line) (q : ℕ) {acts : Bool} {length second first : ℕ} → acts ≡ l .double → length ≡ l .second .length
+pub unmasked-word : (l : Line) (q : ℕ) {acts : Bool} {length second first : ℕ} → acts ≡ l .«second_acts» → length ≡ l .second .length
     → second ≡ secondWord (l .second) q → first ≡ firstWord (l .mode) (l .pattern) (l .start) (l .origin) (l .repetitions) q
     → cond (acts && leb length q) second first ≡ six (λ k. unmasked l k q)
 unfolding firstWord secondWord
 unmasked-word l q acts length second first =
     (λ i. cond (acts i && leb (length i) q) (second i) (first i))
-    ∙ six-cond (l .double && leb (l .second .length) q) (λ k. secondLevel (l .second) k q)
+    ∙ six-cond (l .«second_acts» && leb (l .second .length) q) (λ k. secondLevel (l .second) k q)
     (λ k. firstLevel (l .mode) (l .pattern) (l .start) (l .origin) (l .repetitions) k q)
 
 -- the two parts of the word

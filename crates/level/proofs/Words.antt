@@ -78,7 +78,7 @@ use Rattle.level.specs.Word.{
   gateWord,
   wordOf,
 }
-use Rattle.level.specs.Fieldwords.{lineWords, wordsOf, fieldWords}
+use Rattle.level.specs.Fieldwords.{lineWords, wordsOnLine, fieldWords}
 use Rattle.level.specs.Place.{placeOf, lineAt, pixelAt}
 
 -- ---- a word is below 2 ^ 14: every level is a number mod 2
@@ -101,7 +101,7 @@ first-small Multiplier a start origin r k p = times-small a start k (origin + p)
 
 pub unmasked-small : (l : Line) (k p : ℕ) → unmasked l k p < 2
 unmasked-small l k p =
-    cond-case (λ n. n < 2) (l .double && leb (l .second .length) p) _ _ (λ e. mod-small _)
+    cond-case (λ n. n < 2) (l .«second_acts» && leb (l .second .length) p) _ _ (λ e. mod-small _)
     (λ e. first-small (l .mode) (l .pattern) (l .start) (l .origin) (l .repetitions) k p)
 
 pub v-level-small : (l : Line) (k p : ℕ) → vLevel l k p < 2
@@ -169,17 +169,17 @@ module _ (t : Tables) (f : Field) (line : ℕ) where
     pub line-of-region : lineOf t f line ≡ lineIn t f line i
     line-of-region = line-of (omega (arith, end-most f o i)) ∙ ap (lineIn t f line) (region-is f o i line h l u)
 
-    pub words-of-region : wordsOf t f line ≡ lineWords (lineIn t f line i) (lengthIn t f i line)
+    pub words-of-region : wordsOnLine t f line ≡ lineWords (lineIn t f line i) (lengthIn t f i line)
     words-of-region = rw (line-of-region, line-length-in f o t i line h l u)
 
 -- ---- the words of a field, for every field
 
 module _ (t : Tables) (f : Field) where
-  pub lines-words-length : (n : ℕ) → length (chunks n (wordsOf t f)) ≡ pixelsBefore t f n
+  pub lines-words-length : (n : ℕ) → length (chunks n (wordsOnLine t f)) ≡ pixelsBefore t f n
   unfolding pixelsBefore
   lines-words-length n =
-      length-chunks-sum n (wordsOf t f)
-      ∙ sum-ext (λ line. length (wordsOf t f line)) (lineLength t f) 0 n (λ line a b. line-words-length (lineOf t f line) (lineLength t f line))
+      length-chunks-sum n (wordsOnLine t f)
+      ∙ sum-ext (λ line. length (wordsOnLine t f line)) (lineLength t f) 0 n (λ line a b. line-words-length (lineOf t f line) (lineLength t f line))
 
   pub field-words-length : length (fieldWords t f) ≡ pixelCount t f
   unfolding fieldWords
@@ -190,8 +190,8 @@ module _ (t : Tables) (f : Field) where
   unfolding fieldWords
   field-word-at line pixel h l =
       let long = line-words-length (lineOf t f line) (lineLength t f line) in
-      ap (λ (n : ℕ). getD (chunks (f .lines) (wordsOf t f)) (n + pixel) 0) (sym (lines-words-length line))
-      ∙ getD-chunks (f .lines) (wordsOf t f) 0 line pixel h (omega arith)
+      ap (λ (n : ℕ). getD (chunks (f .lines) (wordsOnLine t f)) (n + pixel) 0) (sym (lines-words-length line))
+      ∙ getD-chunks (f .lines) (wordsOnLine t f) 0 line pixel h (omega arith)
       ∙ line-words-at (lineOf t f line) (lineLength t f line) pixel l
 
   -- ---- a field pixel, and its line and pixel: of two lines that start at one place the later has it, for the earlier has no pixel
@@ -257,16 +257,16 @@ module _ (t : Tables) (f : Field) where
 
   module _ (o : Ordered f) where
     pub region-words : fieldWords t f
-        ≡ chunks (regionCount f) (λ i. chunks (endLine f i - firstLine f i) (λ k. wordsOf t f (firstLine f i + k)))
+        ≡ chunks (regionCount f) (λ i. chunks (endLine f i - firstLine f i) (λ k. wordsOnLine t f (firstLine f i + k)))
     unfolding fieldWords
-    region-words = sym (regions-lines f o (wordsOf t f))
+    region-words = sym (regions-lines f o (wordsOnLine t f))
 
     pub region-words-length : (i : ℕ) → i < regionCount f
-        → length (chunks (endLine f i - firstLine f i) (λ k. wordsOf t f (firstLine f i + k))) ≡ regionSize t f i
+        → length (chunks (endLine f i - firstLine f i) (λ k. wordsOnLine t f (firstLine f i + k))) ≡ regionSize t f i
     region-words-length i h =
         let n : ℕ = endLine f i - firstLine f i in
-        length-chunks-sum n (λ k. wordsOf t f (firstLine f i + k))
-        ∙ sum-ext (λ k. length (wordsOf t f (firstLine f i + k))) (λ k. lineLength t f (firstLine f i + k)) 0 n
+        length-chunks-sum n (λ k. wordsOnLine t f (firstLine f i + k))
+        ∙ sum-ext (λ k. length (wordsOnLine t f (firstLine f i + k))) (λ k. lineLength t f (firstLine f i + k)) 0 n
         (λ k a b. line-words-length (lineOf t f (firstLine f i + k)) (lineLength t f (firstLine f i + k)))
         ∙ sym (sum-shift (lineLength t f) (firstLine f i) n)
         ∙ sym (region-pixels f o t i (endLine f i) h (omega arith))

@@ -1,5 +1,6 @@
--- How the code counts flips. Each toggle has a key and each pixel a count, one for all six outputs: a toggle is passed where its key is
--- below the count. Before the start, and after the run, the count is 0 and none is passed.
+-- How the code counts flips: what it counts, which nobody has to believe, for proofs/Counting.antt shows that it gives Word's levels.
+-- Each toggle has a key and each pixel a count, one for all six outputs: a toggle is passed where its key is below the count. Before the
+-- start, and after the run, the count is 0 and none is passed.
 -- Assumes nothing.
 use Prim.Native.Nat.{ℕ, _+_, _-_, _*_, _/_, _%_}
 use mathlib.Core.List.{List, [], _∷_}

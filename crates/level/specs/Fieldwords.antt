@@ -15,8 +15,8 @@ unfoldable pub lineWords : Line → ℕ → List ℕ
 lineWords l n = chunks n (λ p. wordOf l p ∷ [])
 
 -- the words of a line of a field
-abbrev pub wordsOf : Tables → Field → ℕ → List ℕ
-wordsOf t f line = lineWords (lineOf t f line) (lineLength t f line)
+abbrev pub wordsOnLine : Tables → Field → ℕ → List ℕ
+wordsOnLine t f line = lineWords (lineOf t f line) (lineLength t f line)
 
 unfoldable pub fieldWords : Tables → Field → List ℕ
-fieldWords t f = chunks (f .lines) (wordsOf t f)
+fieldWords t f = chunks (f .lines) (wordsOnLine t f)

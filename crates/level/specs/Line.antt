@@ -27,12 +27,34 @@ abbrev pub among : ℕ → List ℕ → Bool
 among x [] = false
 among x (y ∷ ys) = eqb x y || among x ys
 
+-- whether gates and the second pattern act on a line
+abbrev pub onGateLine : Field → ℕ → Bool
+onGateLine f line = among line (gateLines f)
+
+-- a gate or SUBCK that is absent: "Absent: 1."
+abbrev pub absentPulse : Pulse
+absentPulse = record { acts = false; level = 1; toggle1 = 0; toggle2 = 0 }
+
+-- a shutter that is absent: "Absent: 0.", the opposite of a level that it has at no pixel
+abbrev pub absentSpan : Span
+absentSpan = record { level = 1; from = 0; to = 0 }
+
 -- "VSG: on the gate line, if on, .. else the start level. Absent: 1."
 abbrev pub gateHere : Gate → Bool → Pulse
 gateHere g here =
     cond (g .present)
     (record { acts = gateOn g && here; level = g .level; toggle1 = g .toggle1; toggle2 = g .toggle2 })
-    (record { acts = false; level = 1; toggle1 = 0; toggle2 = 0 })
+    absentPulse
+
+-- VSG1 to VSG5
+abbrev pub gatesHere : List Gate → Bool → List Pulse
+gatesHere gates here =
+    gateHere (getD gates 0 emptyGate) here
+    ∷ gateHere (getD gates 1 emptyGate) here
+    ∷ gateHere (getD gates 2 emptyGate) here
+    ∷ gateHere (getD gates 3 emptyGate) here
+    ∷ gateHere (getD gates 4 emptyGate) here
+    ∷ []
 
 -- "SUBCK: with suppression s and count c, flips the same way on lines from gate line + s to below gate line + s + c, inside the field;
 -- else its start level. Absent: 1."
@@ -45,7 +67,7 @@ subckHere s gate line =
       toggle1 = s .toggle1;
       toggle2 = s .toggle2;
     })
-    (record { acts = false; level = 1; toggle1 = 0; toggle2 = 0 })
+    absentPulse
 
 -- "Shutters: active from on, up to but not including off; else the opposite. Absent: 0." Of a line of the given length: before the line
 -- of on, and after that of off, at no pixel; on the line of on, from its pixel; on the line of off, up to its pixel; between, at all.
@@ -61,7 +83,7 @@ shutterHere s line length =
     (cond (leb (s .«on_line») line && leb line (s .«off_line»))
     (record { level = s .active; from = opensAt s line; to = closesAt s line length })
     (record { level = s .active; from = 0; to = 0 }))
-    (record { level = 1; from = 0; to = 0 })
+    absentSpan
 
 abbrev pub emptyPattern : Pattern
 emptyPattern =
@@ -87,15 +109,9 @@ lineWith t f line i r s a =
       repetitions = repetitions s line;
       mask1 = record { on = pairOn (s .mask) 1; freeze = a .freeze1; resume = a .resume1 };
       mask2 = record { on = pairOn (s .mask) 2; freeze = a .freeze2; resume = a .resume2 };
-      double = hasSecond f && among line (gateLines f);
+      «second_acts» = hasSecond f && onGateLine f line;
       second = secondOf t f;
-      gates =
-          gateHere (getD (t .gates) 0 emptyGate) (among line (gateLines f))
-          ∷ gateHere (getD (t .gates) 1 emptyGate) (among line (gateLines f))
-          ∷ gateHere (getD (t .gates) 2 emptyGate) (among line (gateLines f))
-          ∷ gateHere (getD (t .gates) 3 emptyGate) (among line (gateLines f))
-          ∷ gateHere (getD (t .gates) 4 emptyGate) (among line (gateLines f))
-          ∷ [];
+      gates = gatesHere (t .gates) (onGateLine f line);
       subck = subckHere (t .subck) (getD (gateLines f) 0 0) line;
       mshut = shutterHere (getD (t .shutters) 0 emptyShutter) line (lengthIn t f i line);
       strobe = shutterHere (getD (t .shutters) 1 emptyShutter) line (lengthIn t f i line);
@@ -107,7 +123,7 @@ lineIn t f line i =
     lineWith t f line i (regionAt f i) (sequenceOf t (regionAt f i .sequence))
     (patternOf (t .registers) (sequenceOf t (regionAt f i .sequence) .pattern))
 
--- of a line that the field does not have: nothing acts
+-- a line that the field does not have: nothing acts, and each output shows what it shows where its item is absent
 unfoldable pub noLine : Line
 noLine =
     record {
@@ -119,12 +135,12 @@ noLine =
       repetitions = 0;
       mask1 = record { on = false; freeze = 0; resume = 0 };
       mask2 = record { on = false; freeze = 0; resume = 0 };
-      double = false;
+      «second_acts» = false;
       second = emptyPattern;
-      gates = replicate 5 (record { acts = false; level = 0; toggle1 = 0; toggle2 = 0 });
-      subck = record { acts = false; level = 0; toggle1 = 0; toggle2 = 0 };
-      mshut = record { level = 0; from = 0; to = 0 };
-      strobe = record { level = 0; from = 0; to = 0 };
+      gates = replicate 5 absentPulse;
+      subck = absentPulse;
+      mshut = absentSpan;
+      strobe = absentSpan;
     }
 
 unfoldable pub lineOf : Tables → Field → ℕ → Line

@@ -1,7 +1,7 @@
 -- The level asked for at a line and pixel, and the line and pixel of a field pixel counted from 0.
 -- Assumes nothing.
 use Prim.Native.Nat.{ℕ, _+_, _-_}
-use mathlib.Core.Bool.{Bool, cond}
+use mathlib.Core.Bool.{cond}
 use lib.Dec.{ltb}
 use Rattle.profile.specs.Lists.{lastStart}
 use Rattle.profile.specs.Values.{accepted, refused, accepts}
@@ -16,20 +16,19 @@ use Rattle.level.specs.declared.Located.{Located}
 use Rattle.level.specs.Line.{lineOf}
 use Rattle.level.specs.Word.{wordOf}
 
--- the check's refusal first, then 19 where there is no such thing
-abbrev pub askedVerdict : Profile → Bool → Verdict
-askedVerdict p there = cond (accepts (checkProfile p)) (cond there accepted (refused 19 0)) (checkProfile p)
-
 -- "a refused level .. gives word 0"
+abbrev pub noLevel : Verdict → LevelAnswer
+noLevel v = record { verdict = v; word = 0 }
+
+-- the word at a line and pixel; 19 where the field has no such pixel
+abbrev pub wordAnswer : Tables → Field → ℕ → ℕ → LevelAnswer
+wordAnswer t f line pixel =
+    cond (hasPixel t f line pixel) (record { verdict = accepted; word = wordOf (lineOf t f line) pixel }) (noLevel (refused 19 0))
+
+-- the check's refusal first
 unfoldable pub levelAnswer : Profile → ℕ → ℕ → LevelAnswer
 levelAnswer p line pixel =
-    record {
-      verdict = askedVerdict p (hasPixel (p .tables) (p .field) line pixel);
-      word =
-          cond (accepts (askedVerdict p (hasPixel (p .tables) (p .field) line pixel)))
-          (wordOf (lineOf (p .tables) (p .field) line) pixel)
-          0;
-    }
+    cond (accepts (checkProfile p)) (wordAnswer (p .tables) (p .field) line pixel) (noLevel (checkProfile p))
 
 -- the place of a line's pixel among the field's pixels
 abbrev pub placeOf : Tables → Field → ℕ → ℕ → ℕ
@@ -43,10 +42,13 @@ abbrev pub pixelAt : Tables → Field → ℕ → ℕ
 pixelAt t f n = n - pixelsBefore t f (lineAt t f n)
 
 -- "a field pixel, counted from 0, can be asked for its line and pixel (0 and 0 when refused, 19 past the end)"
+abbrev pub noPlace : Verdict → Located
+noPlace v = record { verdict = v; line = 0; pixel = 0 }
+
+abbrev pub placeAnswer : Tables → Field → ℕ → Located
+placeAnswer t f n =
+    cond (ltb n (pixelCount t f)) (record { verdict = accepted; line = lineAt t f n; pixel = pixelAt t f n }) (noPlace (refused 19 0))
+
+-- the check's refusal first
 unfoldable pub locateAnswer : Profile → ℕ → Located
-locateAnswer p n =
-    record {
-      verdict = askedVerdict p (ltb n (pixelCount (p .tables) (p .field)));
-      line = cond (accepts (askedVerdict p (ltb n (pixelCount (p .tables) (p .field))))) (lineAt (p .tables) (p .field) n) 0;
-      pixel = cond (accepts (askedVerdict p (ltb n (pixelCount (p .tables) (p .field))))) (pixelAt (p .tables) (p .field) n) 0;
-    }
+locateAnswer p n = cond (accepts (checkProfile p)) (placeAnswer (p .tables) (p .field) n) (noPlace (checkProfile p))

@@ -5,7 +5,7 @@ use mathlib.Core.List.{List}
 use mathlib.Core.Bool.{Bool, true, false, cond, _&&_}
 use lib.ListN.{getD}
 use lib.Dec.{ltb, leb}
-use Rattle.profile.specs.Patterns.{rowOf, used}
+use Rattle.profile.specs.Patterns.{rowOf, not4095, used}
 use Rattle.profile.specs.declared.Mode.{Mode}
 use Rattle.profile.specs.declared.Mode.the-variants.{Plain, Sweep, Multiplier}
 use Rattle.profile.specs.declared.Pattern.{Pattern}
@@ -27,11 +27,11 @@ abbrev pub within : ℕ → ℕ → ℕ → Bool
 within from to p = leb from p && ltb p to
 
 -- The toggle count, for all six outputs and the second pattern: how many used toggles of a row have toggle × scale at or below t.
-abbrev pub flips : Mode → ℕ → ℕ → List ℕ → ℕ → ℕ
-flips m length scale row t =
-    bit (used m length (getD row 0 0) && leb (getD row 0 0 * scale) t)
-    + bit (used m length (getD row 1 0) && leb (getD row 1 0 * scale) t)
-    + bit (used m length (getD row 2 0) && leb (getD row 2 0 * scale) t)
+abbrev pub flips : (ℕ → Bool) → ℕ → List ℕ → ℕ → ℕ
+flips uses scale row t =
+    bit (uses (getD row 0 0) && leb (getD row 0 0 * scale) t)
+    + bit (uses (getD row 1 0) && leb (getD row 1 0 * scale) t)
+    + bit (uses (getD row 2 0) && leb (getD row 2 0 * scale) t)
 
 -- the start level of output k
 abbrev pub startLevel : Pattern → ℕ → ℕ
@@ -43,14 +43,14 @@ abbrev pub runLevel : Pattern → ℕ → ℕ → ℕ → ℕ → ℕ
 runLevel a start r k q =
     cond (ltb q start) (startLevel a k)
     (cond (ltb (q - start) (r * a .length))
-    (flipped (startLevel a k) (flips Plain (a .length) 1 (rowOf a k) ((q - start) % a .length)))
+    (flipped (startLevel a k) (flips (used Plain (a .length)) 1 (rowOf (a .toggles) k) ((q - start) % a .length)))
     (startLevel a k))
 
 -- "Multiplier: t likewise; one flip for each used toggle with toggle × length at or below t, and no return afterwards."
 abbrev pub timesLevel : Pattern → ℕ → ℕ → ℕ → ℕ
 timesLevel a start k q =
     cond (ltb q start) (startLevel a k)
-    (flipped (startLevel a k) (flips Multiplier (a .length) (a .length) (rowOf a k) (q - start)))
+    (flipped (startLevel a k) (flips not4095 (a .length) (rowOf (a .toggles) k) (q - start)))
 
 -- the first pattern by mode; "Sweep: the same with t counted from the region's first pixel, through line ends."
 abbrev pub firstLevel : Mode → Pattern → ℕ → ℕ → ℕ → ℕ → ℕ → ℕ
@@ -60,11 +60,11 @@ firstLevel Multiplier a start origin r k p = timesLevel a start k (origin + p)
 
 -- "Second pattern: .. from the pixel equal to its length, its start level flipped for each used toggle at or below pixel − length."
 abbrev pub secondLevel : Pattern → ℕ → ℕ → ℕ
-secondLevel a k p = flipped (startLevel a k) (flips Multiplier (a .length) 1 (rowOf a k) (p - a .length))
+secondLevel a k p = flipped (startLevel a k) (flips not4095 1 (rowOf (a .toggles) k) (p - a .length))
 
 abbrev pub unmasked : Line → ℕ → ℕ → ℕ
 unmasked l k p =
-    cond (l .double && leb (l .second .length) p)
+    cond (l .«second_acts» && leb (l .second .length) p)
     (secondLevel (l .second) k p)
     (firstLevel (l .mode) (l .pattern) (l .start) (l .origin) (l .repetitions) k p)
 

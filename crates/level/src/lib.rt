@@ -34,7 +34,7 @@ pub struct Span {
     pub to: u16,
 }
 
-// All that one line needs. `origin` is the number of its region's pixels before it; `double` says that the second pattern acts on it.
+// All that one line needs. `origin` is the number of its region's pixels before it; `second_acts` says that the second pattern acts on it.
 pub struct Line {
     pub length: u16,
     pub mode: Mode,
@@ -44,7 +44,7 @@ pub struct Line {
     pub repetitions: u16,
     pub mask1: Mask,
     pub mask2: Mask,
-    pub double: bool,
+    pub second_acts: bool,
     pub second: Pattern,
     pub gates: [Pulse; 5],
     pub subck: Pulse,

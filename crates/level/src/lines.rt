@@ -17,15 +17,13 @@ use profile::region_of;
 use profile::region_pixels;
 use profile::repetitions;
 use profile::sequence_of;
-ghost use Prim.Native.Nat.{_<_};
+ghost use Prim.Native.Nat.{_<_, _/_, _%_};
 ghost use mathlib.Core.Path.{_≡_};
 ghost use mathlib.Core.Bool.{_&&_};
-ghost use mathlib.Core.List.{[], _∷_};
-ghost use lib.ListN.{getD};
-ghost use Rattle.profile.specs.Values.{emptyGate};
-ghost use Rattle.profile.specs.Geometry.{regionPixels, gateLines};
-ghost use Rattle.profile.specs.Rules.{pairOn, hasSecond};
-ghost use Rattle.level.specs.Line.{among, gateHere, subckHere, opensAt, closesAt, shutterHere, emptyPattern, lineIn, noLine, lineOf};
+ghost use Rattle.profile.specs.Geometry.{regionPixels};
+ghost use lib.Dec.{eqb};
+ghost use Rattle.profile.specs.Rules.{hasSecond};
+ghost use Rattle.level.specs.Line.{onGateLine, absentPulse, absentSpan, gateHere, gatesHere, subckHere, opensAt, closesAt, shutterHere, emptyPattern, lineIn, noLine, lineOf};
 
 // The region's pixels before a line of region i.
 fn origin_of(tables: Tables, field: Field, i: usize, line: u16) -> u32
@@ -37,7 +35,7 @@ fn origin_of(tables: Tables, field: Field, i: usize, line: u16) -> u32
 // A freeze and resume pair, turned on by its bit of the mask.
 fn mask_of(mask: u16, bit: u16, freeze: u16, resume: u16) -> Mask
     requires { ⌜ 0 < bit ⌝ }
-    ensures { λ r. ⌜ r ≡ record { on = pairOn mask bit; freeze = freeze; resume = resume } ⌝ }
+    ensures { λ r. ⌜ r ≡ record { on = eqb (mask / bit % 2) 1; freeze = freeze; resume = resume } ⌝ }
 {
     Mask {
         on: mask / bit % 2 == 1,
@@ -48,7 +46,7 @@ fn mask_of(mask: u16, bit: u16, freeze: u16, resume: u16) -> Mask
 
 // Whether gates and the second pattern act on a line.
 fn on_gate_line(field: Field, line: u16) -> bool
-    ensures { λ r. ⌜ r ≡ among line (gateLines field) ⌝ }
+    ensures { λ r. ⌜ r ≡ onGateLine field line ⌝ }
 {
     line == field.gate
 }
@@ -58,6 +56,29 @@ fn doubles(field: Field, here: bool) -> bool
     ensures { λ r. ⌜ r ≡ (hasSecond field && here) ⌝ }
 {
     (field.second != 65535) & here
+}
+
+// What a gate or SUBCK shows that is absent.
+fn absent_pulse() -> Pulse
+    ensures { λ r. ⌜ r ≡ absentPulse ⌝ }
+{
+    Pulse {
+        acts: false,
+        level: 1,
+        toggle1: 0,
+        toggle2: 0,
+    }
+}
+
+// What a shutter shows that is absent.
+fn absent_span() -> Span
+    ensures { λ r. ⌜ r ≡ absentSpan ⌝ }
+{
+    Span {
+        level: 1,
+        from: 0,
+        to: 0,
+    }
 }
 
 // A gate on a line.
@@ -72,17 +93,12 @@ fn gate_here(gate: Gate, here: bool) -> Pulse
             toggle2: gate.toggle2,
         };
     }
-    Pulse {
-        acts: false,
-        level: 1,
-        toggle1: 0,
-        toggle2: 0,
-    }
+    absent_pulse()
 }
 
 // VSG1 to VSG5 on a line.
 fn gates_here(gates: [Gate; 5], here: bool) -> [Pulse; 5]
-    ensures { λ r. ⌜ r ≡ gateHere (getD gates 0 emptyGate) here ∷ gateHere (getD gates 1 emptyGate) here ∷ gateHere (getD gates 2 emptyGate) here ∷ gateHere (getD gates 3 emptyGate) here ∷ gateHere (getD gates 4 emptyGate) here ∷ [] ⌝ }
+    ensures { λ r. ⌜ r ≡ gatesHere gates here ⌝ }
 {
     [
         gate_here(gates[0], here),
@@ -107,12 +123,7 @@ fn subck_here(subck: Subck, gate: u16, line: u16) -> Pulse
             toggle2: subck.toggle2,
         };
     }
-    Pulse {
-        acts: false,
-        level: 1,
-        toggle1: 0,
-        toggle2: 0,
-    }
+    absent_pulse()
 }
 
 // The pixel from which a shutter is active, on its lines.
@@ -140,11 +151,7 @@ fn shutter_here(shutter: Shutter, line: u16, length: u16) -> Span
     ensures { λ r. ⌜ r ≡ shutterHere shutter line length ⌝ }
 {
     if !shutter.present {
-        return Span {
-            level: 1,
-            from: 0,
-            to: 0,
-        };
+        return absent_span();
     }
     if (shutter.on_line <= line) & (line <= shutter.off_line) {
         return Span {
@@ -183,7 +190,7 @@ fn line_in(tables: Tables, field: Field, line: u16, i: usize) -> Line
         repetitions: repetitions(sequence, line as u64),
         mask1: mask_of(sequence.mask, 1, pattern.freeze1, pattern.resume1),
         mask2: mask_of(sequence.mask, 2, pattern.freeze2, pattern.resume2),
-        double: doubles(field, here),
+        second_acts: doubles(field, here),
         second: pattern_of(registers, field.second),
         gates: gates_here(gates, here),
         subck: subck_here(subck, field.gate, line),
@@ -207,7 +214,7 @@ fn no_pattern() -> Pattern
     }
 }
 
-// The line of a number that the field does not have.
+// A line that the field does not have: as if every item were absent.
 fn no_line() -> Line
     ensures { λ r. ⌜ r ≡ noLine ⌝ }
 {
@@ -216,17 +223,8 @@ fn no_line() -> Line
         freeze: 0,
         resume: 0,
     };
-    let pulse = Pulse {
-        acts: false,
-        level: 0,
-        toggle1: 0,
-        toggle2: 0,
-    };
-    let span = Span {
-        level: 0,
-        from: 0,
-        to: 0,
-    };
+    let pulse = absent_pulse();
+    let span = absent_span();
     Line {
         length: 0,
         mode: Mode::Plain,
@@ -236,7 +234,7 @@ fn no_line() -> Line
         repetitions: 0,
         mask1: mask,
         mask2: mask,
-        double: false,
+        second_acts: false,
         second: no_pattern(),
         gates: [pulse; 5],
         subck: pulse,

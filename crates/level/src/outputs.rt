@@ -462,7 +462,7 @@ fn prepare(line: Line) -> Ready
     let a = line.pattern;
     let first = first_of(mode, a, line.start, line.origin, line.repetitions);
     let b = line.second;
-    let second = second_of(line.double, b);
+    let second = second_of(line.second_acts, b);
     let mask1 = line.mask1;
     let mask2 = line.mask2;
     let gates = line.gates;

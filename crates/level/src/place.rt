@@ -13,11 +13,7 @@ use profile::has_pixel;
 use profile::line_length;
 use profile::refuse;
 ghost use mathlib.Core.Path.{_≡_};
-ghost use mathlib.Core.Bool.{cond};
-ghost use lib.Dec.{ltb};
-ghost use Rattle.profile.specs.Values.{accepted, refused};
-ghost use Rattle.profile.specs.Geometry.{pixelCount};
-ghost use Rattle.level.specs.Place.{levelAnswer, lineAt, pixelAt, locateAnswer};
+ghost use Rattle.level.specs.Place.{levelAnswer, placeAnswer, locateAnswer};
 
 // The word at a line and pixel; 0 where it is refused.
 pub fn level(profile: Profile, line: u64, pixel: u64) -> LevelAnswer
@@ -44,9 +40,9 @@ pub fn level(profile: Profile, line: u64, pixel: u64) -> LevelAnswer
     }
 }
 
-// The line and pixel of pixel n of an accepted field: each line takes its length off n.
+// The line and pixel of pixel n of a field: each line takes its length off n.
 fn place_of(tables: Tables, field: Field, n: u64) -> Located
-    ensures { λ r. ⌜ r ≡ cond (ltb n (pixelCount tables field)) (record { verdict = accepted; line = lineAt tables field n; pixel = pixelAt tables field n }) (record { verdict = refused 19 0; line = 0; pixel = 0 }) ⌝ }
+    ensures { λ r. ⌜ r ≡ placeAnswer tables field n ⌝ }
 {
     let lines = field.lines as u64;
     let mut line = 0u64;

@@ -8,24 +8,23 @@ use mathlib.Core.Path.{_≡_, refl, sym, ap, subst, _∙_}
 use mathlib.Core.Logic.{_↔_, _⊎_, inl, inr}
 use mathlib.Core.Bool.{Bool, true, false, not, _&&_, _||_, false≢true}
 use mathlib.Core.List.{List, [], _∷_, _++_, map}
-use lib.ListN.{getD}
 use lib.Dec.{ltb, leb, lit≤}
 use borrow.Author.Tests.{ltb-true, ltb-false, eqb-true, eq-eqb, ne-eqb}
 use Rattle.profile.specs.Lists.{Each, all, chunks}
-use Rattle.profile.specs.Values.{accepted, refused, emptyGate, emptyShutter}
-use Rattle.profile.specs.Geometry.{regionCount, regionAt, firstLine, Ordered, sequenceAt, patternAt, lineLength, regionSize, gateLines}
+use Rattle.profile.specs.Values.{accepted, refused}
+use Rattle.profile.specs.Patterns.{rowOf, used}
+use Rattle.profile.specs.Geometry.{regionCount, regionAt, firstLine, Ordered, gateOf, shutterOf, sequenceAt, patternAt, lineLength, regionSize, gateLines}
 use Rattle.profile.specs.Rules.{
   Entry,
   rule,
   firstBroken,
   startsRight,
+  rowRight,
   hasSecond,
   secondOf,
   secondRight,
   gateRight,
   orderEntries,
-  toggleEntries,
-  runEntries,
   entriesAt,
   regionEntries,
   lineEntries,
@@ -33,21 +32,23 @@ use Rattle.profile.specs.Rules.{
   subckEntries,
   shutterEntries,
   rulesOf,
-  judge,
   checkProfile,
 }
 use Rattle.profile.specs.Ranges.{inRange}
-use Rattle.profile.specs.Obeys.{Seconds, Before, Starts, Pulses, Rule, turn, Earlier, FirstBroken}
+use Rattle.profile.specs.Obeys.{Used, Rises, Seconds, Before, Starts, Pulses, FieldRule, Rule, turn, Earlier, FirstBroken}
+use Rattle.profile.specs.declared.Mode.{Mode}
+use Rattle.profile.specs.declared.Sequence.{Sequence}
+use Rattle.profile.specs.declared.Pattern.{Pattern}
 use Rattle.profile.specs.declared.Tables.{Tables}
 use Rattle.profile.specs.declared.Field.{Field}
 use Rattle.profile.specs.declared.Profile.{Profile}
 use Rattle.profile.specs.declared.Verdict.{Verdict}
-use Rattle.profile.proofs.Laws.{by-cases, each-map, each-append, each-left, each-right, each-chunks, each-chunk}
-use Rattle.profile.proofs.Checked.{check-range, numbered-rules}
+use Rattle.profile.proofs.Laws.{by-cases, each-map, each-append, each-right}
+use Rattle.profile.proofs.Checked.{check-range, judge-entries, numbered-rules, EachAt, at-parts, parts-at, rules-parts, parts-rules}
 use Rattle.profile.proofs.Entries.{Numbered, Hold, hold-accepted}
 use Rattle.profile.proofs.Lines.{regions-some}
 use Rattle.profile.proofs.Carried.{says-range}
-use Rattle.profile.proofs.Reflects.{Says, says-lt, says-le, says-true, says-ne, says-and, says-where, says-one, says-toggles, says-mask, says-counts, says-ends, says-second, says-gate, says-subck, says-shutter}
+use Rattle.profile.proofs.Reflects.{Says, says-lt, says-le, says-true, says-ne, says-and, says-where, says-map, says-used, says-row, says-mask, says-counts, says-ends, says-second, says-gate, says-subck, says-shutter}
 
 -- ---- the first entry that does not hold
 
@@ -138,6 +139,10 @@ same-rule m j n i a b =
     less-or j i (λ h. absurd (a (inr (e, inl h)))) (λ h. absurd (b (inr (sym e, inl h))))
     (λ z. less-or m n (λ h. absurd (a (inr (e, inr (z, h))))) (λ h. absurd (b (inr (sym e, inr (sym z, h))))) (λ h. (h, z))))
 
+-- an entry of rule n at place i holds
+abbrev At : ℕ → ℕ → Entry → Type 0
+At n i e = e .verdict .number ≡ n → e .verdict .place ≡ i → e .holds ≡ true
+
 -- ---- each test says its row
 
 says-starts : (f : Field) (i : ℕ) → Says (startsRight f i) (Starts f i)
@@ -150,191 +155,143 @@ says-starts f (suc i) =
     let w = says-and (says-lt (firstLine f (suc i)) (f .lines)) (says-lt (firstLine f (suc i - 1)) (firstLine f (suc i))) in
     rw (ne-eqb (suc i) 0 n) ((λ e. (w .0 e .0, (λ z. absurd (n z)), λ m. w .0 e .1)), λ s. w .1 (s .0, s .2 n))
 
-module _ (p : Profile) where
-  abbrev t : Tables
-  t = p .tables
+-- ---- the rules of a field
 
-  abbrev f : Field
-  f = p .field
-
-  says-line : Says (all (map (λ (g : ℕ). ltb g (f .lines)) (gateLines f))) (f .gate < f .lines)
-  says-line = says-one (says-lt (f .gate) (f .lines))
+module _ (t : Tables) (f : Field) where
+  says-lines : Says (all (map (λ (g : ℕ). ltb g (f .lines)) (gateLines f))) (Each (λ g. g < f .lines) (gateLines f))
+  says-lines = says-map _ _ (λ g. says-lt g (f .lines)) (gateLines f)
 
   says-seconds :
       Says (not (hasSecond f) || all (map (secondRight t f (secondOf t f)) (gateLines f)))
-      ((f .second ≡ 65535 → ⊥) → Seconds t f (secondOf t f) (f .gate))
-  says-seconds = says-where (says-ne (f .second) 65535) (says-one (says-second t f (secondOf t f) (f .gate)))
+      ((f .second ≡ 65535 → ⊥) → Each (Seconds t f (secondOf t f)) (gateLines f))
+  says-seconds = says-where (says-ne (f .second) 65535) (says-map _ _ (says-second t f (secondOf t f)) (gateLines f))
 
   says-pulses : (k : ℕ)
-      → Says (all (map (λ (g : ℕ). gateRight (getD (t .gates) k emptyGate) (lineLength t f g)) (gateLines f)))
-      (Pulses (getD (t .gates) k emptyGate) (lineLength t f (f .gate)))
-  says-pulses k = says-one (says-gate (getD (t .gates) k emptyGate) (lineLength t f (f .gate)))
+      → Says (all (map (λ (g : ℕ). gateRight (gateOf t k) (lineLength t f g)) (gateLines f)))
+      (Each (λ g. Pulses (gateOf t k) (lineLength t f g)) (gateLines f))
+  says-pulses k = says-map _ _ (λ g. says-gate (gateOf t k) (lineLength t f g)) (gateLines f)
 
-  -- ---- the parts of the list
+  module _ (i : ℕ) where
+    abbrev mode : Mode
+    mode = regionAt f i .mode
 
-  -- 5, 6, then 7 to 17
-  abbrev entriesOf : List Entry
-  entriesOf = rule 5 0 (inRange p) ∷ rule 6 0 (f .present) ∷ rulesOf t f
+    abbrev sequence : Sequence
+    sequence = sequenceAt t f i
 
-  check-entries : checkProfile p ≡ firstBroken entriesOf
-  unfolding checkProfile judge firstBroken
-  check-entries = refl
+    abbrev pattern : Pattern
+    pattern = patternAt t f i
 
-  numbered : Numbered entriesOf
-  numbered = (lit≤ tt, (lit≤ tt, numbered-rules t f))
-
-  abbrev order : List Entry
-  order = chunks (regionCount f) (orderEntries f)
-
-  abbrev regions : List Entry
-  regions = chunks (regionCount f) (regionEntries t f)
-
-  abbrev gates : List Entry
-  gates = chunks 5 (gateEntries t f)
-
-  abbrev shutters : List Entry
-  shutters = chunks 2 (shutterEntries t f)
-
-  abbrev to-14 : List Entry
-  to-14 = order ++ regions ++ lineEntries t f
-
-  abbrev to-16 : List Entry
-  to-16 = to-14 ++ gates ++ subckEntries t
-
-  abbrev outputs : ℕ → List Entry
-  outputs i = chunks 6 (toggleEntries i (regionAt f i .mode) (patternAt t f i))
-
-  abbrev runs : ℕ → List Entry
-  runs i = runEntries i (regionAt f i .mode) (sequenceAt t f i) (patternAt t f i) (regionSize t f i)
+    says-toggles : (k : ℕ)
+        → Says (rowRight (used mode (pattern .length)) (rowOf (pattern .toggles) k))
+        (Rises (Used mode (pattern .length)) (rowOf (pattern .toggles) k))
+    says-toggles k = says-row _ _ (says-used mode (pattern .length)) (rowOf (pattern .toggles) k)
 
   -- ---- a rule that holds passes its tests
 
   abbrev Passes : Entry → Type 0
-  Passes e = Rule p (e .verdict .number) (e .verdict .place) → e .holds ≡ true
+  Passes e = FieldRule t f (e .verdict .number) (e .verdict .place) → e .holds ≡ true
 
   passes-region : (i : ℕ) → i < regionCount f → Each Passes (regionEntries t f i)
-  unfolding entriesAt
   passes-region i h =
-      let m = regionAt f i .mode in
-      let s = sequenceAt t f i in
-      let a = patternAt t f i in (
-        (λ r. r .sequence-given refl h),
-        (
-          (λ r. says-ne (a .length) 0 .1 (r .pattern-length refl h)),
-          each-append Passes (outputs i) (runs i)
-              (each-chunks Passes 6 (toggleEntries i m a) (λ k l. ((λ r. says-toggles m a k .1 (r .toggle-order refl h k l)), tt))) (
-                (λ r. says-mask m (s .mask) a .1 (r .mask refl h)),
-                (
-                  (λ r. says-counts m s a .1 (r .repetitions refl h)),
-                  ((λ r. says-ends m s a (regionSize t f i) .1 (r .run-ends refl h)), tt),
-                ),
-              ),
-        ),
-      )
+      parts-at Passes i (mode i) (sequence i) (pattern i) (regionSize t f i)
+      (record {
+        given = λ r. r .sequence-given refl h;
+        length = λ r. says-ne (pattern i .length) 0 .1 (r .pattern-length refl h);
+        toggles = λ k l. ((λ r. says-toggles i k .1 (r .toggle-order refl h k l)), tt);
+        runs = (
+          (λ r. says-mask (mode i) (sequence i .mask) (pattern i) .1 (r .mask refl h)),
+          (
+            (λ r. says-counts (mode i) (sequence i) (pattern i) .1 (r .repetitions refl h)),
+            ((λ r. says-ends (mode i) (sequence i) (pattern i) (regionSize t f i) .1 (r .run-ends refl h)), tt),
+          ),
+        );
+      })
 
-  passes : Each Passes entriesOf
-  unfolding rulesOf lineEntries
-  passes = (
-    (λ r. says-range p .1 (r .values refl refl)),
-    (
-      (λ r. r .field-given refl refl),
-      each-append Passes to-16 shutters
-          (each-append Passes (to-14 ++ gates) (subckEntries t)
-          (each-append Passes to-14 gates
-          (each-append Passes (order ++ regions) (lineEntries t f)
-          (each-append Passes order regions
-          (each-chunks Passes (regionCount f) (orderEntries f) (λ i h. ((λ r. says-starts f i .1 (r .region-order refl h)), tt)))
-          (each-chunks Passes (regionCount f) (regionEntries t f) passes-region)) (
-            (λ r. says-line .1 (r .gate-line refl refl .0)),
-            ((λ r. says-seconds .1 (r .gate-line refl refl .1)), tt),
-          ))
-          (each-chunks Passes 5 (gateEntries t f) (λ k h. ((λ r. says-pulses k .1 (r .gate-pulse refl h)), tt))))
-          ((λ r. says-subck (t .subck) .1 (r .subck refl refl)), tt))
-          (each-chunks Passes 2 (shutterEntries t f)
-          (λ k h. ((λ r. says-shutter t f (getD (t .shutters) k emptyShutter) .1 (r .shutter refl h)), tt))),
-    ),
-  )
+  passes-lines : Each Passes (lineEntries t f)
+  unfolding lineEntries
+  passes-lines = ((λ r. says-lines .1 (r .gate-line refl refl .0)), ((λ r. says-seconds .1 (r .gate-line refl refl .1)), tt))
+
+  passes-rules : Each Passes (rulesOf t f)
+  passes-rules =
+      parts-rules Passes t f
+      (record {
+        order = λ i h. ((λ r. says-starts f i .1 (r .region-order refl h)), tt);
+        region = passes-region;
+        lines = passes-lines;
+        gates = λ k h. ((λ r. says-pulses k .1 (r .gate-pulse refl h)), tt);
+        subck = ((λ r. says-subck (t .subck) .1 (r .subck refl refl)), tt);
+        shutters = λ k h. ((λ r. says-shutter t f (shutterOf t k) .1 (r .shutter refl h)), tt);
+      })
 
   -- ---- a rule whose tests pass holds
 
-  abbrev At : ℕ → ℕ → Entry → Type 0
-  At n i e = e .verdict .number ≡ n → e .verdict .place ≡ i → e .holds ≡ true
+  holds-field : (n i : ℕ) → Each (At n i) (rulesOf t f) → FieldRule t f n i
+  unfolding lineEntries
+  holds-field n i w =
+      let all = rules-parts (At n i) t f w in
+      let region : i < regionCount f → EachAt (At n i) i (mode i) (sequence i) (pattern i) (regionSize t f i) =
+      λ h. at-parts (At n i) i (mode i) (sequence i) (pattern i) (regionSize t f i) (all .region i h) in
+      record {
+        region-order = λ e h. says-starts f i .0 (all .order i h .0 (sym e) refl);
+        sequence-given = λ e h. region h .given (sym e) refl;
+        pattern-length = λ e h. says-ne (pattern i .length) 0 .0 (region h .length (sym e) refl);
+        toggle-order = λ e h k l. says-toggles i k .0 (region h .toggles k l .0 (sym e) refl);
+        mask = λ e h. says-mask (mode i) (sequence i .mask) (pattern i) .0 (region h .runs .0 (sym e) refl);
+        repetitions = λ e h. says-counts (mode i) (sequence i) (pattern i) .0 (region h .runs .1 .0 (sym e) refl);
+        run-ends = λ e h. says-ends (mode i) (sequence i) (pattern i) (regionSize t f i) .0 (region h .runs .1 .1 .0 (sym e) refl);
+        gate-line = λ e z. (says-lines .0 (all .lines .0 (sym e) (sym z)), says-seconds .0 (all .lines .1 .0 (sym e) (sym z)));
+        gate-pulse = λ e h. says-pulses i .0 (all .gates i h .0 (sym e) refl);
+        subck = λ e z. says-subck (t .subck) .0 (all .subck .0 (sym e) (sym z));
+        shutter = λ e h. says-shutter t f (shutterOf t i) .0 (all .shutters i h .0 (sym e) refl);
+      }
 
-  module _ (n i : ℕ) (w : Each (At n i) entriesOf) where
-    all-rules : Each (At n i) (rulesOf t f)
-    all-rules = w .1 .1
+-- ---- the rules of a profile
 
-    up-16 : Each (At n i) to-16
-    unfolding rulesOf
-    up-16 = each-left (At n i) to-16 shutters all-rules
+module _ (p : Profile) where
+  -- 5, 6, then 7 to 17
+  abbrev checks : List Entry
+  checks = rule 5 0 (inRange p) ∷ rule 6 0 (p .field .present) ∷ rulesOf (p .tables) (p .field)
 
-    up-15 : Each (At n i) (to-14 ++ gates)
-    up-15 = each-left (At n i) (to-14 ++ gates) (subckEntries t) up-16
+  check-entries : checkProfile p ≡ firstBroken checks
+  unfolding checkProfile firstBroken
+  check-entries = rw judge-entries
 
-    up-14 : Each (At n i) to-14
-    up-14 = each-left (At n i) to-14 gates up-15
+  numbered : Numbered checks
+  numbered = (lit≤ tt, (lit≤ tt, numbered-rules (p .tables) (p .field)))
 
-    up-13 : Each (At n i) (order ++ regions)
-    up-13 = each-left (At n i) (order ++ regions) (lineEntries t f) up-14
+  abbrev Passed : Entry → Type 0
+  Passed e = Rule p (e .verdict .number) (e .verdict .place) → e .holds ≡ true
 
-    of-lines : Each (At n i) (lineEntries t f)
-    of-lines = each-right (At n i) (order ++ regions) (lineEntries t f) up-14
+  passes : Each Passed checks
+  passes = (
+    (λ r. says-range p .1 (r .values refl refl)),
+    (
+      (λ r. r .field-given refl refl .0),
+      each-map (Passes (p .tables) (p .field)) Passed (λ e h r. h (r .fields .0)) (rulesOf (p .tables) (p .field))
+          (passes-rules (p .tables) (p .field)),
+    ),
+  )
 
-    module _ (h : i < regionCount f) where
-      of-order : Each (At n i) (orderEntries f i)
-      of-order = each-chunk (At n i) (regionCount f) (orderEntries f) (each-left (At n i) order regions up-13) i h
-
-      of-region : Each (At n i) (regionEntries t f i)
-      of-region = each-chunk (At n i) (regionCount f) (regionEntries t f) (each-right (At n i) order regions up-13) i h
-
-      of-outputs : (k : ℕ) → k < 6 → Each (At n i) (toggleEntries i (regionAt f i .mode) (patternAt t f i) k)
-      unfolding entriesAt
-      of-outputs k l =
-          each-chunk (At n i) 6 (toggleEntries i (regionAt f i .mode) (patternAt t f i))
-          (each-left (At n i) (outputs i) (runs i) (of-region .1 .1)) k l
-
-      of-runs : Each (At n i) (runs i)
-      unfolding entriesAt
-      of-runs = each-right (At n i) (outputs i) (runs i) (of-region .1 .1)
-
-    holds : Rule p n i
-    unfolding rulesOf entriesAt lineEntries
-    holds =
-        let m = regionAt f i .mode in
-        let s = sequenceAt t f i in
-        let a = patternAt t f i in
-        record {
-          values = λ e z. says-range p .0 (w .0 (sym e) (sym z));
-          field-given = λ e z. w .1 .0 (sym e) (sym z);
-          region-order = λ e h. says-starts f i .0 (of-order h .0 (sym e) refl);
-          sequence-given = λ e h. of-region h .0 (sym e) refl;
-          pattern-length = λ e h. says-ne (a .length) 0 .0 (of-region h .1 .0 (sym e) refl);
-          toggle-order = λ e h k l. says-toggles m a k .0 (of-outputs h k l .0 (sym e) refl);
-          mask = λ e h. says-mask m (s .mask) a .0 (of-runs h .0 (sym e) refl);
-          repetitions = λ e h. says-counts m s a .0 (of-runs h .1 .0 (sym e) refl);
-          run-ends = λ e h. says-ends m s a (regionSize t f i) .0 (of-runs h .1 .1 .0 (sym e) refl);
-          gate-line = λ e z. (says-line .0 (of-lines .0 (sym e) (sym z)), says-seconds .0 (of-lines .1 .0 (sym e) (sym z)));
-          gate-pulse = λ e h.
-              says-pulses i .0
-              (each-chunk (At n i) 5 (gateEntries t f) (each-right (At n i) to-14 gates up-15) i h .0 (sym e) refl);
-          subck = λ e z. says-subck (t .subck) .0 (each-right (At n i) (to-14 ++ gates) (subckEntries t) up-16 .0 (sym e) (sym z));
-          shutter = λ e h.
-              says-shutter t f (getD (t .shutters) i emptyShutter) .0
-              (each-chunk (At n i) 2 (shutterEntries t f) (each-right (At n i) to-16 shutters all-rules) i h .0 (sym e) refl);
-        }
+  holds : (n i : ℕ) → Each (At n i) checks → Rule p n i
+  holds n i w =
+      record {
+        values = λ e z. says-range p .0 (w .0 (sym e) (sym z));
+        field-given = λ e z. (w .1 .0 (sym e) (sym z), tt);
+        fields = (holds-field (p .tables) (p .field) n i (w .1 .1), tt);
+      }
 
   -- ---- the entries rise in the stated order, whatever the number of regions
 
   rising-rules : (n : ℕ) → n ≤ 7
       → rising 0
       (rule 5 0 (inRange p)
-      ∷ rule 6 0 (f .present)
-      ∷ (chunks n (orderEntries f)
-      ++ chunks n (regionEntries t f)
-      ++ lineEntries t f
-      ++ chunks 5 (gateEntries t f)
-      ++ subckEntries t
-      ++ chunks 2 (shutterEntries t f)))
+      ∷ rule 6 0 (p .field .present)
+      ∷ (chunks n (orderEntries (p .field))
+      ++ chunks n (regionEntries (p .tables) (p .field))
+      ++ lineEntries (p .tables) (p .field)
+      ++ chunks 5 (gateEntries (p .tables) (p .field))
+      ++ subckEntries (p .tables)
+      ++ chunks 2 (shutterEntries (p .tables) (p .field))))
       ≡ true
   unfolding rising chunks entriesAt lineEntries
   rising-rules zero h = refl
@@ -347,13 +304,13 @@ module _ (p : Profile) where
   rising-rules (suc (suc (suc (suc (suc (suc (suc zero))))))) h = refl
   rising-rules (suc (suc (suc (suc (suc (suc (suc (suc n)))))))) h = absurd (omega arith)
 
-  rises : rising 0 entriesOf ≡ true
+  rises : rising 0 checks ≡ true
   unfolding rulesOf
-  rises = rising-rules (regionCount f) (omega arith)
+  rises = rising-rules (regionCount (p .field)) (omega arith)
 
   -- ---- the first broken entry is the first broken rule
 
-  module _ (w : First entriesOf) where
+  module _ (w : First checks) where
     abbrev at : Verdict
     at = w .entry .verdict
 
@@ -367,7 +324,7 @@ module _ (p : Profile) where
     first-is =
         record {
           broken = λ r.
-              let q = each-right Passes (w .before) (w .entry ∷ w .after) (subst (λ (es : List Entry). Each Passes es) (w .there) passes) .0 in
+              let q = each-right Passed (w .before) (w .entry ∷ w .after) (subst (λ (es : List Entry). Each Passed es) (w .there) passes) .0 in
               false≢true (sym (w .broken) ∙ q r);
           before = λ m j e.
               holds m j
@@ -384,19 +341,19 @@ module _ (p : Profile) where
   Judged v = (((n i : ℕ) → Rule p n i) × (v ≡ accepted)) ⊎ FirstBroken p (v .number) (v .place)
 
   pub check-judged : Judged (checkProfile p)
-  check-judged = subst Judged (sym check-entries) (go (first-broken entriesOf))
+  check-judged = subst Judged (sym check-entries) (go (first-broken checks))
     where
-      go : Hold entriesOf ⊎ First entriesOf → Judged (firstBroken entriesOf)
+      go : Hold checks ⊎ First checks → Judged (firstBroken checks)
       go (inl h) = inl (
-        (λ n i. holds n i (each-map (λ d. d .holds ≡ true) (At n i) (λ d h n i. h) entriesOf h)),
-        hold-accepted entriesOf h,
+        (λ n i. holds n i (each-map (λ d. d .holds ≡ true) (At n i) (λ d h n i. h) checks h)),
+        hold-accepted checks h,
       )
       go (inr w) = inr (subst (λ (v : Verdict). FirstBroken p (v .number) (v .place)) (sym (w .named)) (first-is w))
 
   -- no rule has the number 0
   rule-0 : (i : ℕ) → Rule p 0 i
   rule-0 i =
-      holds 0 i (each-map (λ e. 1 ≤ e .verdict .number) (At 0 i) (λ e h z. absurd (omega (arith, h, z))) entriesOf numbered)
+      holds 0 i (each-map (λ e. 1 ≤ e .verdict .number) (At 0 i) (λ e h z. absurd (omega (arith, h, z))) checks numbered)
 
 named-so : (v : Verdict) (n i : ℕ) → v .number ≡ n → v .place ≡ i → v ≡ refused n i
 named-so v n i e z = ap (λ (m : ℕ). refused m (v .place)) e ∙ ap (λ (j : ℕ). refused n j) z
@@ -438,12 +395,12 @@ broken-number p (suc n) i b = omega arith
 -- ---- what an accepted profile has
 
 pub accepted-field : (p : Profile) → checkProfile p ≡ accepted → p .field .present ≡ true
-accepted-field p e = accepted-exactly p .0 e 6 0 .field-given refl refl
+accepted-field p e = accepted-exactly p .0 e 6 0 .field-given refl refl .0
 
 -- rule 7: its regions' lines follow one another
 pub accepted-ordered : (p : Profile) → checkProfile p ≡ accepted → Ordered (p .field)
 accepted-ordered p e =
-    let starts : (i : ℕ) → i < regionCount (p .field) → Starts (p .field) i = λ i. accepted-exactly p .0 e 7 i .region-order refl in
+    let starts : (i : ℕ) → i < regionCount (p .field) → Starts (p .field) i = λ i. accepted-exactly p .0 e 7 i .fields .0 .region-order refl in
     let some = regions-some p (check-range p e) (accepted-field p e) in
     record {
       some = some;

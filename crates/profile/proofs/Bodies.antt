@@ -1,46 +1,55 @@
 -- A record of each kind, written and read again: it is taken, and the profile gets the item back.
 -- Two or three bytes give their number again, so the record's tests are the item's own ranges.
 -- Assumes nothing.
-use mathlib.Core.Path.{_≡_, refl, sym, _∙_}
-use mathlib.Core.Bool.{true, not, _||_}
-use mathlib.Core.List.{List, _++_}
+use mathlib.Core.Path.{_≡_, refl, sym, ap, _∙_}
+use mathlib.Core.Bool.{Bool, true, not, _||_}
+use mathlib.Core.List.{List, _∷_, _++_}
 use Prim.Native.Nat.{ℕ, _+_, _*_, _/_, _%_, _<_, _≤_}
 use native.Mathlib.Omega.{arith}
 use borrow.Author.Tests.{le-ltb, le-leb, leb-true, eq-eqb, eqb-true}
 use lib.Dec.{leb, eqb}
-use lib.ListN.{length, set}
+use lib.ListN.{length, set, length-append}
+use lib.Seq.{take-append-seam}
 use Rattle.profile.specs.Lists.{all}
-use Rattle.profile.specs.Bytes.{numberAt}
+use Rattle.profile.specs.Bytes.{recordOf}
+use Rattle.profile.specs.Values.{setRegisters, setSequences, setGates, setSubck, setShutters, setTables}
 use Rattle.profile.specs.Ranges.{halfLimit, sequenceRange, gateRange, subckRange, shutterRange}
-use Rattle.profile.specs.Script.{registerFits, sequenceFits, gateFits, subckFits, shutterFits, known, allowed, fits, put, bodyOf, next, step}
-use Rattle.profile.specs.Writing.{registerRecord, sequenceRecord, gateRecord, subckRecord, shutterRecord}
+use Rattle.profile.specs.Script.{
+  registerFits,
+  sequenceFrom,
+  sequenceFits,
+  gateFrom,
+  gateFits,
+  subckFrom,
+  subckFits,
+  shutterFrom,
+  shutterFits,
+  known,
+  allowed,
+  fits,
+  withRecord,
+  next,
+  step,
+}
+use Rattle.profile.specs.Writing.{
+  registerBody,
+  registerRecord,
+  sequenceBody,
+  sequenceRecord,
+  gateBody,
+  gateRecord,
+  subckBody,
+  subckRecord,
+  shutterBody,
+  shutterRecord,
+}
 use Rattle.profile.specs.declared.Sequence.{Sequence}
 use Rattle.profile.specs.declared.Gate.{Gate}
 use Rattle.profile.specs.declared.Subck.{Subck}
 use Rattle.profile.specs.declared.Shutter.{Shutter}
-use Rattle.profile.specs.declared.Field.{Field}
 use Rattle.profile.specs.declared.Profile.{Profile}
 use Rattle.profile.proofs.Laws.{by-cases, all-passed, passed, where-intro}
-
--- ---- a profile with one of its items replaced
-
-abbrev madeOf : List ℕ → List Sequence → List Gate → Subck → List Shutter → Field → Profile
-madeOf r s g c u f = record { tables = record { registers = r; sequences = s; gates = g; subck = c; shutters = u }; field = f }
-
-abbrev pub replaceRegisters : List ℕ → Profile → Profile
-replaceRegisters r p = madeOf r (p .tables .sequences) (p .tables .gates) (p .tables .subck) (p .tables .shutters) (p .field)
-
-abbrev pub replaceSequences : List Sequence → Profile → Profile
-replaceSequences s p = madeOf (p .tables .registers) s (p .tables .gates) (p .tables .subck) (p .tables .shutters) (p .field)
-
-abbrev pub replaceGates : List Gate → Profile → Profile
-replaceGates g p = madeOf (p .tables .registers) (p .tables .sequences) g (p .tables .subck) (p .tables .shutters) (p .field)
-
-abbrev pub replaceSubck : Subck → Profile → Profile
-replaceSubck c p = madeOf (p .tables .registers) (p .tables .sequences) (p .tables .gates) c (p .tables .shutters) (p .field)
-
-abbrev pub replaceShutters : List Shutter → Profile → Profile
-replaceShutters u p = madeOf (p .tables .registers) (p .tables .sequences) (p .tables .gates) (p .tables .subck) u (p .field)
+use Rattle.profile.proofs.Takes.{Takes, takes-record}
 
 -- ---- any kind
 
@@ -50,12 +59,26 @@ join-two w = omega arith
 join-three : (v : ℕ) → v < 16777216 → v % 256 + 256 * (v / 256 % 256) + 65536 * (v / 65536 % 256) ≡ v
 join-three v h = omega arith
 
--- a record whose five tests pass is taken
-pub step-takes : (s : List ℕ) (p : Profile) → known (numberAt s 2) ≡ true → allowed (numberAt s 2) (numberAt s 0) ≡ true
-    → 4 + numberAt s 0 ≤ length s → fits (numberAt s 2) (bodyOf s) ≡ true
-    → step s p ≡ next (numberAt s 0) (put (numberAt s 2) (bodyOf s) p)
+-- a record of a known kind, of a length that it allows, whose values fit, is taken, whatever follows it
+pub takes-written : (kind : ℕ) (b : List ℕ) {p q : Profile} → known kind ≡ true → allowed kind (length b) ≡ true → fits kind b ≡ true
+    → withRecord kind b p ≡ q → Takes (recordOf kind b) p q
 unfolding step
-step-takes s p k a l f = rw (le-ltb (length s) 4 (omega arith), k, a, le-ltb (length s) (4 + numberAt s 0) l, f)
+takes-written kind b {p} {q} k a f w = takes-record (length b) (omega arith) front
+  where
+    front : (rest : List ℕ) → step (recordOf kind b ++ rest) p ≡ next (length b) q
+    front rest =
+        let s = recordOf kind b ++ rest in
+        rw (
+          le-ltb (length s) 4 (omega arith),
+          join-two kind,
+          k,
+          join-two (length b),
+          a,
+          le-ltb (length s) (4 + length b) (omega (arith, length-append b rest)),
+          take-append-seam b rest,
+          f,
+          w,
+        )
 
 -- ---- kind 1
 
@@ -75,76 +98,64 @@ word-fits a low high e =
     let l : low ≤ 63 = leb-true low 63 (rw (eq-eqb _ _ m) at e) in
     eq-eqb ((low + 4096 * high) / 64 % 64) 0 (omega arith))
 
-pub step-register : (a low high : ℕ) (rest : List ℕ) (p : Profile) → a < 120
-    → leb low (halfLimit (2 * a)) ≡ true → leb high (halfLimit (2 * a + 1)) ≡ true
-    → step (registerRecord a low high ++ rest) p ≡ next 4 (replaceRegisters (set (set (p .tables .registers) (2 * a) low) (2 * a + 1) high) p)
-unfolding allowed fits registerFits put
-step-register a low high rest p h hl hh =
+pub takes-register : (a low high : ℕ) (p : Profile) → a < 120 → leb low (halfLimit (2 * a)) ≡ true → leb high (halfLimit (2 * a + 1)) ≡ true
+    → Takes (registerRecord a low high) p
+    (setTables (setRegisters (set (set (p .tables .registers) (2 * a) low) (2 * a + 1) high) (p .tables)) p)
+unfolding allowed fits registerFits withRecord
+takes-register a low high p h hl hh =
     let bl : low < 4096 = half-below (2 * a) low hl in
     let bh : high < 4096 = half-below (2 * a + 1) high hh in
     let v = low + 4096 * high in
     let j = join-three v (omega arith) in
     let lo : v % 4096 ≡ low = omega arith in
     let hi : v / 4096 ≡ high = omega arith in
-    step-takes (registerRecord a low high ++ rest) p refl refl (omega arith)
+    takes-written 1 (registerBody a low high) refl refl
     (rw j (all-passed _ (le-leb a 119 (omega arith), (word-fits a low high hl, tt))))
-    ∙ rw (j, lo, hi)
+    (rw (j, lo, hi))
 
--- ---- kind 2
+-- ---- kinds 2, 4 and 6: an item with a number
 
-shown-sequence : (s : Sequence) → s .present ≡ true
-    → record { present = true; pattern = s .pattern; length = s .length; start = s .start; odd = s .odd; even = s .even; mask = s .mask } ≡ s
-shown-sequence s e i =
-    record { present = sym e i; pattern = s .pattern; length = s .length; start = s .start; odd = s .odd; even = s .even; mask = s .mask }
+-- the tests of a body whose number and item are k and s
+item-fits : {A : Type 0} (range : A → List Bool) (top : ℕ) {n k : ℕ} {x s : A} → n ≡ k → x ≡ s → k ≤ top → all (range s) ≡ true
+    → all (leb n top ∷ range x) ≡ true
+item-fits range top {k = k} {s = s} en es h f = rw (en, es) (all-passed (leb k top ∷ range s) (le-leb k top h, passed (range s) f))
 
-pub step-sequence : (k : ℕ) (s : Sequence) (rest : List ℕ) (p : Profile) → k < 10 → s .present ≡ true → all (sequenceRange s) ≡ true
-    → step (sequenceRecord k s ++ rest) p ≡ next 14 (replaceSequences (set (p .tables .sequences) k s) p)
-unfolding allowed fits sequenceFits put
-step-sequence k s rest p h e f =
-    step-takes (sequenceRecord k s ++ rest) p refl refl (omega arith)
-    (simp join-two (all-passed _ (le-leb k 9 (omega arith), passed (sequenceRange s) f)))
-    ∙ simp (join-two, shown-sequence s e)
+sequence-back : (k : ℕ) (s : Sequence) → s .present ≡ true → sequenceFrom (sequenceBody k s) ≡ s
+sequence-back k s e =
+    simp join-two
+    (λ i.
+    record {
+      present = sym e i;
+      pattern = s .pattern;
+      length = s .length;
+      start = s .start;
+      odd = s .odd;
+      even = s .even;
+      mask = s .mask;
+    })
 
--- ---- kind 4
+pub takes-sequence : (k : ℕ) (s : Sequence) (p : Profile) → k < 10 → s .present ≡ true → all (sequenceRange s) ≡ true
+    → Takes (sequenceRecord k s) p (setTables (setSequences (set (p .tables .sequences) k s) (p .tables)) p)
+unfolding allowed fits sequenceFits withRecord
+takes-sequence k s p h e f =
+    let b = sequence-back k s e in
+    takes-written 2 (sequenceBody k s) refl refl (item-fits sequenceRange 9 (join-two k) b (omega arith) f) (rw (join-two k, b))
 
-shown-gate : (g : Gate) → g .present ≡ true
-    → record { present = true; on = g .on; level = g .level; toggle1 = g .toggle1; toggle2 = g .toggle2 } ≡ g
-shown-gate g e i = record { present = sym e i; on = g .on; level = g .level; toggle1 = g .toggle1; toggle2 = g .toggle2 }
+gate-back : (k : ℕ) (g : Gate) → g .present ≡ true → gateFrom (gateBody k g) ≡ g
+gate-back k g e =
+    simp join-two (λ i. record { present = sym e i; on = g .on; level = g .level; toggle1 = g .toggle1; toggle2 = g .toggle2 })
 
-pub step-gate : (k : ℕ) (g : Gate) (rest : List ℕ) (p : Profile) → k < 5 → g .present ≡ true → all (gateRange g) ≡ true
-    → step (gateRecord k g ++ rest) p ≡ next 10 (replaceGates (set (p .tables .gates) k g) p)
-unfolding allowed fits gateFits put
-step-gate k g rest p h e f =
-    step-takes (gateRecord k g ++ rest) p refl refl (omega arith)
-    (simp join-two (all-passed _ (le-leb k 4 (omega arith), passed (gateRange g) f)))
-    ∙ simp (join-two, shown-gate g e)
+pub takes-gate : (k : ℕ) (g : Gate) (p : Profile) → k < 5 → g .present ≡ true → all (gateRange g) ≡ true
+    → Takes (gateRecord k g) p (setTables (setGates (set (p .tables .gates) k g) (p .tables)) p)
+unfolding allowed fits gateFits withRecord
+takes-gate k g p h e f =
+    let b = gate-back k g e in
+    takes-written 4 (gateBody k g) refl refl (item-fits gateRange 4 (join-two k) b (omega arith) f) (rw (join-two k, b))
 
--- ---- kind 5
-
-shown-subck : (s : Subck) → s .present ≡ true
-    → record { present = true; level = s .level; toggle1 = s .toggle1; toggle2 = s .toggle2; suppressed = s .suppressed; count = s .count } ≡ s
-shown-subck s e i =
-    record { present = sym e i; level = s .level; toggle1 = s .toggle1; toggle2 = s .toggle2; suppressed = s .suppressed; count = s .count }
-
-pub step-subck : (s : Subck) (rest : List ℕ) (p : Profile) → s .present ≡ true → all (subckRange s) ≡ true
-    → step (subckRecord s ++ rest) p ≡ next 10 (replaceSubck s p)
-unfolding allowed fits subckFits put
-step-subck s rest p e f =
-    step-takes (subckRecord s ++ rest) p refl refl (omega arith) (simp join-two f) ∙ simp (join-two, shown-subck s e)
-
--- ---- kind 6
-
-shown-shutter : (s : Shutter) → s .present ≡ true
-    → record {
-      present = true;
-      active = s .active;
-      «on_line» = s .«on_line»;
-      «on_pixel» = s .«on_pixel»;
-      «off_line» = s .«off_line»;
-      «off_pixel» = s .«off_pixel»;
-    }
-    ≡ s
-shown-shutter s e i =
+shutter-back : (k : ℕ) (s : Shutter) → s .present ≡ true → shutterFrom (shutterBody k s) ≡ s
+shutter-back k s e =
+    simp join-two
+    (λ i.
     record {
       present = sym e i;
       active = s .active;
@@ -152,12 +163,33 @@ shown-shutter s e i =
       «on_pixel» = s .«on_pixel»;
       «off_line» = s .«off_line»;
       «off_pixel» = s .«off_pixel»;
-    }
+    })
 
-pub step-shutter : (k : ℕ) (s : Shutter) (rest : List ℕ) (p : Profile) → k < 2 → s .present ≡ true → all (shutterRange s) ≡ true
-    → step (shutterRecord k s ++ rest) p ≡ next 12 (replaceShutters (set (p .tables .shutters) k s) p)
-unfolding allowed fits shutterFits put
-step-shutter k s rest p h e f =
-    step-takes (shutterRecord k s ++ rest) p refl refl (omega arith)
-    (simp join-two (all-passed _ (le-leb k 1 (omega arith), passed (shutterRange s) f)))
-    ∙ simp (join-two, shown-shutter s e)
+pub takes-shutter : (k : ℕ) (s : Shutter) (p : Profile) → k < 2 → s .present ≡ true → all (shutterRange s) ≡ true
+    → Takes (shutterRecord k s) p (setTables (setShutters (set (p .tables .shutters) k s) (p .tables)) p)
+unfolding allowed fits shutterFits withRecord
+takes-shutter k s p h e f =
+    let b = shutter-back k s e in
+    takes-written 6 (shutterBody k s) refl refl (item-fits shutterRange 1 (join-two k) b (omega arith) f) (rw (join-two k, b))
+
+-- ---- kind 5
+
+subck-back : (s : Subck) → s .present ≡ true → subckFrom (subckBody s) ≡ s
+subck-back s e =
+    simp join-two
+    (λ i.
+    record {
+      present = sym e i;
+      level = s .level;
+      toggle1 = s .toggle1;
+      toggle2 = s .toggle2;
+      suppressed = s .suppressed;
+      count = s .count;
+    })
+
+pub takes-subck : (s : Subck) (p : Profile) → s .present ≡ true → all (subckRange s) ≡ true
+    → Takes (subckRecord s) p (setTables (setSubck s (p .tables)) p)
+unfolding allowed fits subckFits withRecord
+takes-subck s p e f =
+    let b = subck-back s e in
+    takes-written 5 (subckBody s) refl refl (ap (λ (x : Subck). all (subckRange x)) b ∙ f) (rw b)

@@ -12,25 +12,23 @@ use lib.Dec.{ltb, leb, eqb}
 use lib.ListN.{length, getD, take, drop, length-take, List·getD-eq-default}
 use lib.Seq.{getD-take, getD-drop}
 use Rattle.profile.specs.Lists.{all, chunks}
-use Rattle.profile.specs.Bytes.{Bytes, twoBytes, threeBytes}
+use Rattle.profile.specs.Bytes.{Bytes, twoBytes, threeBytes, recordOf}
 use Rattle.profile.specs.Values.{modeNumber, emptySequence, emptyGate, emptyShutter}
 use Rattle.profile.specs.Geometry.{regionCount, regionAt}
 use Rattle.profile.specs.Ranges.{sequenceRange, fieldRange, regionRange, gateRange, subckRange, shutterRange, regionIn, inRange}
+use Rattle.profile.specs.Script.{kinds}
 use Rattle.profile.specs.Writing.{
+  registerBody,
   registerRecord,
   registerChunk,
   sequenceRecord,
-  sequenceChunk,
   regionBytes,
   fieldHead,
+  fieldBody,
   fieldRecord,
-  fieldChunk,
   gateRecord,
-  gateChunk,
   subckRecord,
-  subckChunk,
   shutterRecord,
-  shutterChunk,
   writeScript,
 }
 use Rattle.profile.specs.declared.Mode.{Mode}
@@ -42,7 +40,9 @@ use Rattle.profile.specs.declared.Subck.{Subck}
 use Rattle.profile.specs.declared.Shutter.{Shutter}
 use Rattle.profile.specs.declared.Profile.{Profile}
 use Rattle.profile.proofs.Laws.{by-cases, or-cases, cond-case, passed}
+use Rattle.profile.proofs.Stores.{length-two, length-body, scriptPart, all-parts}
 use Rattle.profile.proofs.Items.{
+  Items,
   items,
   sequence-present,
   gate-present,
@@ -113,30 +113,37 @@ bytes-three v =
 
 -- ---- the records
 
+bytes-record : (kind : ℕ) (b : List ℕ) → Words (length b ∷ kind ∷ []) → Bytes b → Bytes (recordOf kind b)
+bytes-record kind b h w = bytes-append (twoBytes (length b ∷ kind ∷ [])) b (bytes-two (length b ∷ kind ∷ []) h) w
+
+-- a body of numbers of two bytes
+bytes-numbers : (kind : ℕ) (ws : List ℕ) → Words (2 * length ws ∷ kind ∷ ws) → Bytes (recordOf kind (twoBytes ws))
+bytes-numbers kind ws h = bytes-record kind (twoBytes ws) (rw length-two (h .0, (h .1 .0, tt))) (bytes-two ws (h .1 .1))
+
 bytes-register : (a low high : ℕ) → a < 120 → Bytes (registerRecord a low high)
 bytes-register a low high h =
     let b : a < 256 = omega arith in
-    bytes-append (twoBytes (4 ∷ 1 ∷ [])) _ (bytes-two (4 ∷ 1 ∷ []) (omega arith)) (bytes-cons b (bytes-three (low + 4096 * high)))
+    bytes-record 1 (registerBody a low high) (omega arith) (bytes-cons b (bytes-three (low + 4096 * high)))
 
 bytes-sequence : (k : ℕ) (s : Sequence) → k < 10 → all (sequenceRange s) ≡ true → Bytes (sequenceRecord k s)
 bytes-sequence k s h e =
     let q = passed (sequenceRange s) e in
-    bytes-two (14 ∷ 2 ∷ k ∷ s .pattern ∷ s .length ∷ s .start ∷ s .odd ∷ s .even ∷ s .mask ∷ []) (omega (arith, leb-true))
+    bytes-numbers 2 (k ∷ s .pattern ∷ s .length ∷ s .start ∷ s .odd ∷ s .even ∷ s .mask ∷ []) (omega (arith, leb-true))
 
 bytes-gate : (k : ℕ) (g : Gate) → k < 5 → all (gateRange g) ≡ true → Bytes (gateRecord k g)
 bytes-gate k g h e =
     let q = passed (gateRange g) e in
-    bytes-two (10 ∷ 4 ∷ k ∷ g .on ∷ g .level ∷ g .toggle1 ∷ g .toggle2 ∷ []) (omega (arith, leb-true))
+    bytes-numbers 4 (k ∷ g .on ∷ g .level ∷ g .toggle1 ∷ g .toggle2 ∷ []) (omega (arith, leb-true))
 
 bytes-subck : (s : Subck) → all (subckRange s) ≡ true → Bytes (subckRecord s)
 bytes-subck s e =
     let q = passed (subckRange s) e in
-    bytes-two (10 ∷ 5 ∷ s .level ∷ s .toggle1 ∷ s .toggle2 ∷ s .suppressed ∷ s .count ∷ []) (omega (arith, leb-true))
+    bytes-numbers 5 (s .level ∷ s .toggle1 ∷ s .toggle2 ∷ s .suppressed ∷ s .count ∷ []) (omega (arith, leb-true))
 
 bytes-shutter : (k : ℕ) (s : Shutter) → k < 2 → all (shutterRange s) ≡ true → Bytes (shutterRecord k s)
 bytes-shutter k s h e =
     let q = passed (shutterRange s) e in
-    bytes-two (12 ∷ 6 ∷ k ∷ s .active ∷ s .«on_line» ∷ s .«on_pixel» ∷ s .«off_line» ∷ s .«off_pixel» ∷ []) (omega (arith, leb-true))
+    bytes-numbers 6 (k ∷ s .active ∷ s .«on_line» ∷ s .«on_pixel» ∷ s .«off_line» ∷ s .«off_pixel» ∷ []) (omega (arith, leb-true))
 
 pub mode-below : (m : Mode) → modeNumber m < 3
 mode-below Plain = omega arith
@@ -157,34 +164,38 @@ bytes-field : (f : Field) → all (fieldRange f) ≡ true → ((i : ℕ) → i <
 bytes-field f e r =
     let q = passed (fieldRange f) e in
     let n = regionCount f in
-    bytes-append (twoBytes ((10 + 6 * n) ∷ 3 ∷ []) ++ fieldHead f) (chunks n (regionBytes f))
-    (bytes-append (twoBytes ((10 + 6 * n) ∷ 3 ∷ [])) (fieldHead f) (bytes-two ((10 + 6 * n) ∷ 3 ∷ []) (omega arith))
-    (bytes-two (f .lines ∷ f .last ∷ f .gate ∷ f .second ∷ f .count ∷ []) (omega (arith, leb-true, second-below (f .second) (q .0)))))
-    (bytes-chunks n (regionBytes f) (λ i h. bytes-region f i (region-present f i (r i (omega arith)) (omega arith))))
+    bytes-record 3 (fieldBody f n) (omega (arith, length-body f n))
+    (bytes-append (fieldHead f) (chunks n (regionBytes f))
+    (bytes-two (f .lines ∷ f .last ∷ f .gate ∷ f .second ∷ f .count ∷ []) (omega (arith, leb-true, second-below (f .second) (q .0))))
+    (bytes-chunks n (regionBytes f) (λ i h. bytes-region f i (region-present f i (r i (omega arith)) (omega arith)))))
 
 -- ---- the script
 
+-- an array of n items, of which those present are written
+bytes-items : {A : Type 0} (n : ℕ) (present : A → Bool) (written : ℕ → A → List ℕ) (d : A) (xs : List A)
+    → ((k : ℕ) → k < n → present (getD xs k d) ≡ true → Bytes (written k (getD xs k d)))
+    → Bytes (chunks n (λ k. cond (present (getD xs k d)) (written k (getD xs k d)) []))
+bytes-items n present written d xs f =
+    bytes-chunks n _ (λ k h. bytes-cond (present (getD xs k d)) (written k (getD xs k d)) (f k h))
+
+bytes-part-of : (p : Profile) → Items p → (k : ℕ) → Bytes (scriptPart p k)
+bytes-part-of p r zero = bytes-chunks 120 (registerChunk (p .tables .registers)) (λ i h. bytes-register i _ _ h)
+bytes-part-of p r (suc zero) =
+    let s : ℕ → Sequence = λ k. getD (p .tables .sequences) k emptySequence in
+    bytes-items 10 (λ s. s .present) sequenceRecord emptySequence (p .tables .sequences)
+    (λ k h u. bytes-sequence k (s k) h (sequence-present (s k) (r .sequences k h) u))
+bytes-part-of p r (suc (suc zero)) =
+    bytes-cond (p .field .present) (fieldRecord (p .field)) (λ u. bytes-field (p .field) (field-present (p .field) (r .field) u) (r .regions))
+bytes-part-of p r (suc (suc (suc zero))) =
+    let g : ℕ → Gate = λ k. getD (p .tables .gates) k emptyGate in
+    bytes-items 5 (λ g. g .present) gateRecord emptyGate (p .tables .gates) (λ k h u. bytes-gate k (g k) h (gate-present (g k) (r .gates k h) u))
+bytes-part-of p r (suc (suc (suc (suc zero)))) =
+    let s = p .tables .subck in
+    bytes-cond (s .present) (subckRecord s) (λ u. bytes-subck s (subck-present s (r .subck) u))
+bytes-part-of p r (suc (suc (suc (suc (suc k))))) =
+    let s : ℕ → Shutter = λ k. getD (p .tables .shutters) k emptyShutter in
+    bytes-items 2 (λ s. s .present) shutterRecord emptyShutter (p .tables .shutters)
+    (λ k h u. bytes-shutter k (s k) h (shutter-present (s k) (r .shutters k h) u))
+
 pub bytes-fit : (p : Profile) → inRange p ≡ true → Bytes (writeScript p)
-unfolding writeScript
-bytes-fit p e =
-    let r = items p e in
-    let t = p .tables in
-    let sequence : ℕ → Sequence = λ k. getD (t .sequences) k emptySequence in
-    let gate : ℕ → Gate = λ k. getD (t .gates) k emptyGate in
-    let shutter : ℕ → Shutter = λ k. getD (t .shutters) k emptyShutter in
-    bytes-append _ (chunks 2 (shutterChunk (t .shutters)))
-    (bytes-append _ (subckChunk (t .subck))
-    (bytes-append _ (chunks 5 (gateChunk (t .gates)))
-    (bytes-append _ (fieldChunk (p .field))
-    (bytes-append (chunks 120 (registerChunk (t .registers))) (chunks 10 (sequenceChunk (t .sequences)))
-    (bytes-chunks 120 (registerChunk (t .registers)) (λ i h. bytes-register i _ _ h))
-    (bytes-chunks 10 (sequenceChunk (t .sequences))
-    (λ k h.
-    bytes-cond (sequence k .present) _
-    (λ u. bytes-sequence k (sequence k) h (sequence-present (sequence k) (r .sequences k h) u)))))
-    (bytes-cond (p .field .present) _ (λ u. bytes-field (p .field) (field-present (p .field) (r .field) u) (r .regions))))
-    (bytes-chunks 5 (gateChunk (t .gates))
-    (λ k h. bytes-cond (gate k .present) _ (λ u. bytes-gate k (gate k) h (gate-present (gate k) (r .gates k h) u)))))
-    (bytes-cond (t .subck .present) _ (λ u. bytes-subck (t .subck) (subck-present (t .subck) (r .subck) u))))
-    (bytes-chunks 2 (shutterChunk (t .shutters))
-    (λ k h. bytes-cond (shutter k .present) _ (λ u. bytes-shutter k (shutter k) h (shutter-present (shutter k) (r .shutters k h) u))))
+bytes-fit p e = rw all-parts at (bytes-chunks kinds (scriptPart p) (λ k h. bytes-part-of p (items p e) k))

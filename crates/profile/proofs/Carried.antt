@@ -1,19 +1,18 @@
--- A profile is in range exactly where every number is one that a record can carry and every absent item is all zeros: the one test is taken
--- apart item by item (Items), and an item's tests are its sentences.
+-- A profile is in range exactly where every number is one that a record can carry and every absent item is all zeros: each item's tests are its
+-- sentences, by its presence, and the one test is taken apart item by item.
 -- Assumes nothing.
 use Prim.Native.Nat.{ℕ, _*_, _/_, _%_, _≤_, _<_}
-use native.Mathlib.Nat.{le-trans}
+use native.Mathlib.Nat.{add-zero, le-trans}
 use native.Mathlib.Omega.{arith}
-use mathlib.Core.Path.{_≡_, ap}
+use mathlib.Core.Path.{_≡_, refl, sym}
 use mathlib.Core.Logic.{_⊎_}
-use mathlib.Core.Bool.{true, false, _||_}
-use mathlib.Core.List.{[], _∷_}
+use mathlib.Core.Bool.{Bool, true, false, cond, _||_, false≢true}
+use mathlib.Core.List.{List, [], _∷_}
 use lib.ListN.{getD}
 use lib.Dec.{leb, ltb, eqb}
-use borrow.Author.Tests.{leb-true, le-leb, ltb-true, ltb-false, eqb-true, eq-eqb}
-use Rattle.profile.specs.Lists.{all}
-use Rattle.profile.specs.Values.{emptySequence, emptyGate, emptySubck, emptyShutter}
-use Rattle.profile.specs.Geometry.{regionAt}
+use borrow.Author.Tests.{leb-true, le-leb, eqb-true}
+use Rattle.profile.specs.Lists.{Each, all}
+use Rattle.profile.specs.Geometry.{regionAt, sequenceOf, gateOf, shutterOf}
 use Rattle.profile.specs.Ranges.{
   halfLimit,
   sequenceRange,
@@ -24,14 +23,28 @@ use Rattle.profile.specs.Ranges.{
   shutterRange,
   zeros,
   sequenceIn,
-  regionIn,
-  fieldIn,
   gateIn,
   subckIn,
   shutterIn,
+  regionIn,
+  headIn,
   inRange,
 }
-use Rattle.profile.specs.Obeys.{SequenceRanged, FieldRanged, GateRanged, SubckRanged, ShutterRanged, Ranged}
+use Rattle.profile.specs.Obeys.{
+  SequenceRanged,
+  FieldRanged,
+  GateRanged,
+  SubckRanged,
+  ShutterRanged,
+  RegionRanged,
+  Given,
+  SequenceIn,
+  GateIn,
+  SubckIn,
+  ShutterIn,
+  Ranged,
+}
+use Rattle.profile.specs.Values.{emptyRegion}
 use Rattle.profile.specs.declared.Sequence.{Sequence}
 use Rattle.profile.specs.declared.Field.{Field}
 use Rattle.profile.specs.declared.Gate.{Gate}
@@ -39,26 +52,7 @@ use Rattle.profile.specs.declared.Subck.{Subck}
 use Rattle.profile.specs.declared.Shutter.{Shutter}
 use Rattle.profile.specs.declared.Profile.{Profile}
 use Rattle.profile.proofs.Laws.{by-cases, passed, all-passed}
-use Rattle.profile.proofs.Reflects.{Says, says-eq, says-le, says-or}
-use Rattle.profile.proofs.Items.{
-  Items,
-  items,
-  items-in,
-  sequence-present,
-  gate-present,
-  subck-present,
-  shutter-present,
-  field-present,
-  sequence-absent,
-  gate-absent,
-  subck-absent,
-  shutter-absent,
-  field-absent,
-  region-present,
-  region-absent,
-  region-inside,
-  region-past,
-}
+use Rattle.profile.proofs.Reflects.{Says, says-eq, says-le, says-and, says-or, says-cons, says-each, says-map, says-plain}
 
 -- ---- half registers
 
@@ -79,6 +73,16 @@ half-within h i a b =
     (λ e. rw e a)
 
 -- ---- items, present and absent
+
+-- numbers of an absent item
+says-zeros : (l : List ℕ) → Says (all (zeros l)) (Each (λ x. x ≡ 0) l)
+says-zeros = says-map (λ x. eqb x 0) (λ x. x ≡ 0) (λ x. says-eq x 0)
+
+-- a present item's test is its range's; an absent item is the empty one
+says-item : (present : Bool) {x y : Bool} {A B : Type 0} → Says x A → (present ≡ false → Says y B)
+    → Says (cond present x y) (Given present A B)
+says-item true f g = ((λ e. ((λ h. f .0 e), λ h. absurd (false≢true (sym h)))), λ w. f .1 (w .0 refl))
+says-item false f g = ((λ e. ((λ h. absurd (false≢true h)), λ h. g refl .0 e)), λ w. g refl .1 (w .1 refl))
 
 pub sequence-says : (s : Sequence) → Says (all (sequenceRange s)) (SequenceRanged s)
 sequence-says s = (
@@ -120,78 +124,149 @@ field-says f = (
   λ w. all-passed (fieldRange f) (second-says (f .second) .1 (w .second), omega (arith, le-leb)),
 )
 
--- a present item's test is its range's; an absent item is the empty one
-sequence-in : (s : Sequence) → (s .present ≡ true → SequenceRanged s) → (s .present ≡ false → s ≡ emptySequence) → sequenceIn s ≡ true
+pub region-says : (f : Field) (i : ℕ) → Says (all (regionRange (regionAt f i))) (RegionRanged (regionAt f i))
+region-says f i = (
+  (λ e. let w = passed (regionRange (regionAt f i)) e in omega (arith, leb-true)),
+  λ w. all-passed (regionRange (regionAt f i)) (omega (arith, le-leb)),
+)
+
+pub sequence-in : (s : Sequence) → Says (sequenceIn s) (SequenceIn s)
 unfolding sequenceIn all
-sequence-in s f g = by-cases (s .present) (λ e. rw e (sequence-says s .1 (f e))) (λ e. ap sequenceIn (g e))
+sequence-in s =
+    says-item (s .present) (sequence-says s)
+    (λ h. (
+      (λ e.
+          let z = says-zeros (s .pattern ∷ s .length ∷ s .start ∷ s .odd ∷ s .even ∷ s .mask ∷ []) .0 e in
+          λ i.
+          record {
+            present = h i;
+            pattern = z .0 i;
+            length = z .1 .0 i;
+            start = z .1 .1 .0 i;
+            odd = z .1 .1 .1 .0 i;
+            even = z .1 .1 .1 .1 .0 i;
+            mask = z .1 .1 .1 .1 .1 .0 i;
+          }),
+      λ q. rw q,
+    ))
 
-gate-in : (g : Gate) → (g .present ≡ true → GateRanged g) → (g .present ≡ false → g ≡ emptyGate) → gateIn g ≡ true
+pub gate-in : (g : Gate) → Says (gateIn g) (GateIn g)
 unfolding gateIn all
-gate-in g f h = by-cases (g .present) (λ e. rw e (gate-says g .1 (f e))) (λ e. ap gateIn (h e))
+gate-in g =
+    says-item (g .present) (gate-says g)
+    (λ h. (
+      (λ e.
+          let z = says-zeros (g .on ∷ g .level ∷ g .toggle1 ∷ g .toggle2 ∷ []) .0 e in
+          λ i. record { present = h i; on = z .0 i; level = z .1 .0 i; toggle1 = z .1 .1 .0 i; toggle2 = z .1 .1 .1 .0 i }),
+      λ q. rw q,
+    ))
 
-subck-in : (s : Subck) → (s .present ≡ true → SubckRanged s) → (s .present ≡ false → s ≡ emptySubck) → subckIn s ≡ true
+pub subck-in : (s : Subck) → Says (subckIn s) (SubckIn s)
 unfolding subckIn all
-subck-in s f g = by-cases (s .present) (λ e. rw e (subck-says s .1 (f e))) (λ e. ap subckIn (g e))
+subck-in s =
+    says-item (s .present) (subck-says s)
+    (λ h. (
+      (λ e.
+          let z = says-zeros (s .level ∷ s .toggle1 ∷ s .toggle2 ∷ s .suppressed ∷ s .count ∷ []) .0 e in
+          λ i.
+          record {
+            present = h i;
+            level = z .0 i;
+            toggle1 = z .1 .0 i;
+            toggle2 = z .1 .1 .0 i;
+            suppressed = z .1 .1 .1 .0 i;
+            count = z .1 .1 .1 .1 .0 i;
+          }),
+      λ q. rw q,
+    ))
 
-shutter-in : (s : Shutter) → (s .present ≡ true → ShutterRanged s) → (s .present ≡ false → s ≡ emptyShutter) → shutterIn s ≡ true
+pub shutter-in : (s : Shutter) → Says (shutterIn s) (ShutterIn s)
 unfolding shutterIn all
-shutter-in s f g = by-cases (s .present) (λ e. rw e (shutter-says s .1 (f e))) (λ e. ap shutterIn (g e))
+shutter-in s =
+    says-item (s .present) (shutter-says s)
+    (λ h. (
+      (λ e.
+          let z = says-zeros (s .active ∷ s .«on_line» ∷ s .«on_pixel» ∷ s .«off_line» ∷ s .«off_pixel» ∷ []) .0 e in
+          λ i.
+          record {
+            present = h i;
+            active = z .0 i;
+            «on_line» = z .1 .0 i;
+            «on_pixel» = z .1 .1 .0 i;
+            «off_line» = z .1 .1 .1 .0 i;
+            «off_pixel» = z .1 .1 .1 .1 .0 i;
+          }),
+      λ q. rw q,
+    ))
 
-field-in : (f : Field) → (f .present ≡ true → FieldRanged f)
-    → (f .present ≡ false → (f .lines ≡ 0) × (f .last ≡ 0) × (f .gate ≡ 0) × (f .second ≡ 0) × (f .count ≡ 0)) → fieldIn f ≡ true
-unfolding fieldIn
-field-in f g h =
-    by-cases (f .present)
-    (λ e. rw e (field-says f .1 (g e)))
-    (λ e.
-    let w = h e in
-    rw e (all-passed (zeros (f .lines ∷ f .last ∷ f .gate ∷ f .second ∷ f .count ∷ [])) (omega (arith, eq-eqb))))
+pub region-in : (f : Field) (i : ℕ) → Says (regionIn f i) (Given (ltb i (f .count)) (RegionRanged (regionAt f i)) (regionAt f i ≡ emptyRegion))
+unfolding regionIn all
+region-in f i =
+    let r = regionAt f i in
+    says-item (ltb i (f .count)) (region-says f i)
+    (λ h. (
+      (λ e.
+          let numbers = r .first ∷ r .sequence ∷ [] in
+          let z = says-cons (zeros numbers) (says-plain (r .mode)) (says-zeros numbers) .0 e in
+          λ j. record { first = z .1 .0 j; sequence = z .1 .1 .0 j; mode = z .0 j }),
+      λ q. rw q,
+    ))
+
+pub head-in : (f : Field)
+    → Says (headIn f)
+    (Given (f .present) (FieldRanged f) ((f .lines ≡ 0) × (f .last ≡ 0) × (f .gate ≡ 0) × (f .second ≡ 0) × (f .count ≡ 0)))
+unfolding headIn
+head-in f =
+    says-item (f .present) (field-says f)
+    (λ h. (
+      (λ e. let z = says-zeros (f .lines ∷ f .last ∷ f .gate ∷ f .second ∷ f .count ∷ []) .0 e in (z .0, z .1 .0, z .1 .1 .0, z .1 .1 .1 .0, z .1 .1 .1 .1 .0)),
+      λ w. says-zeros (f .lines ∷ f .last ∷ f .gate ∷ f .second ∷ f .count ∷ []) .1 (w .0, (w .1, (w .2, (w .3, (w .4, tt))))),
+    ))
 
 -- ---- the whole profile
 
+module _ (p : Profile) (H S G U R : ℕ → Type 0) (K F : Type 0) where
+  -- the one test, whatever its parts say
+  pub says-parts : ((i : ℕ) → Says (leb (getD (p .tables .registers) i 0) (halfLimit i)) (H i))
+      → ((k : ℕ) → Says (sequenceIn (sequenceOf (p .tables) k)) (S k))
+      → ((k : ℕ) → Says (gateIn (gateOf (p .tables) k)) (G k))
+      → Says (subckIn (p .tables .subck)) K
+      → ((k : ℕ) → Says (shutterIn (shutterOf (p .tables) k)) (U k))
+      → Says (headIn (p .field)) F
+      → ((i : ℕ) → Says (regionIn (p .field) i) (R i))
+      → Says (inRange p)
+      ((((((((i : ℕ) → i < 240 → H i) × ((k : ℕ) → k < 10 → S k)) × ((k : ℕ) → k < 5 → G k)) × K) × ((k : ℕ) → k < 2 → U k)))
+      × (F × ((i : ℕ) → i < 7 → R i)))
+  unfolding inRange
+  says-parts h s g k u f r =
+      says-and
+      (says-and (says-and (says-and (says-and (says-each 240 _ H h) (says-each 10 _ S s)) (says-each 5 _ G g)) k) (says-each 2 _ U u))
+      (says-and f (says-each 7 _ R r))
+
 module _ (p : Profile) where
-  from-items : Items p → Ranged p
-  from-items r =
-      record {
-        halves = λ i h. le-trans (leb-true _ _ (r .halves i h)) (half-limit i);
-        start-levels = λ k h. level-within k (leb-true _ _ (r .halves (24 * k) (omega arith)));
-        sequences = λ i h e. sequence-says _ .0 (sequence-present _ (r .sequences i h) e);
-        no-sequence = λ i h e. sequence-absent _ (r .sequences i h) e;
-        gates = λ i h e. gate-says _ .0 (gate-present _ (r .gates i h) e);
-        no-gate = λ i h e. gate-absent _ (r .gates i h) e;
-        subck = λ e. subck-says _ .0 (subck-present _ (r .subck) e);
-        no-subck = λ e. subck-absent _ (r .subck) e;
-        shutters = λ i h e. shutter-says _ .0 (shutter-present _ (r .shutters i h) e);
-        no-shutter = λ i h e. shutter-absent _ (r .shutters i h) e;
-        field = λ e. field-says _ .0 (field-present _ (r .field) e);
-        no-field = λ e. field-absent _ (r .field) e;
-        regions = λ i h l. let w = passed (regionRange (regionAt (p .field) i)) (region-present (p .field) i (r .regions i h) l) in omega (arith, leb-true);
-        no-region = λ i h l. region-absent (p .field) i (r .regions i h) l;
-      }
-
-  region-in : Ranged p → (i : ℕ) → i < 7 → regionIn (p .field) i ≡ true
-  region-in r i h =
-      by-cases (ltb i (p .field .count))
-      (λ e.
-      let l = ltb-true i (p .field .count) e in
-      let w = r .regions i h l in
-      region-inside (p .field) i l (all-passed (regionRange (regionAt (p .field) i)) (omega (arith, le-leb))))
-      (λ e. let l = ltb-false i (p .field .count) e in region-past (p .field) i l (r .no-region i h l))
-
-  start-within : Ranged p → (i : ℕ) → i < 240 → (k : ℕ) → i ≡ 24 * k → getD (p .tables .registers) i 0 ≤ 63
-  start-within r i h k e = rw e (r .start-levels k (omega arith))
-
-  to-items : Ranged p → Items p
-  to-items r =
-      record {
-        halves = λ i h. le-leb _ _ (half-within _ i (r .halves i h) (start-within r i h));
-        sequences = λ i h. sequence-in _ (r .sequences i h) (r .no-sequence i h);
-        gates = λ i h. gate-in _ (r .gates i h) (r .no-gate i h);
-        subck = subck-in _ (r .subck) (r .no-subck);
-        shutters = λ i h. shutter-in _ (r .shutters i h) (r .no-shutter i h);
-        field = field-in _ (r .field) (r .no-field);
-        regions = region-in r;
-      }
+  abbrev half : ℕ → ℕ
+  half i = getD (p .tables .registers) i 0
 
   pub says-range : Says (inRange p) (Ranged p)
-  says-range = ((λ e. from-items (items p e)), λ r. items-in p (to-items r))
+  says-range =
+      let w =
+      says-parts p (λ i. half i ≤ halfLimit i) (λ k. SequenceIn (sequenceOf (p .tables) k)) (λ k. GateIn (gateOf (p .tables) k))
+      (λ k. ShutterIn (shutterOf (p .tables) k)) _ _ _ (λ i. says-le _ _) (λ k. sequence-in _) (λ k. gate-in _)
+      (subck-in (p .tables .subck)) (λ k. shutter-in _) (head-in (p .field)) (region-in (p .field)) in (
+        (λ e.
+            let q = w .0 e in
+            let halves = q .0 .0 .0 .0 .0 in
+            record {
+              halves = λ i h. le-trans (halves i h) (half-limit i);
+              start-levels = λ k h. rw add-zero (level-within k (halves (24 * k) (omega arith)));
+              sequences = q .0 .0 .0 .0 .1;
+              gates = q .0 .0 .0 .1;
+              subck = q .0 .0 .1;
+              shutters = q .0 .1;
+              field = record { head = q .1 .0; regions = q .1 .1 };
+            }),
+        λ r.
+            let start : (i : ℕ) → i < 240 → (k : ℕ) → i ≡ 24 * k → half i ≤ 63 = λ i h k e. rw e (rw add-zero at (r .start-levels k (omega arith))) in
+            let halves : (i : ℕ) → i < 240 → half i ≤ halfLimit i = λ i h. half-within _ i (r .halves i h) (start i h) in
+            w .1 (((((halves, r .sequences), r .gates), r .subck), r .shutters), (r .field .head, r .field .regions)),
+      )

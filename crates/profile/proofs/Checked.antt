@@ -1,16 +1,19 @@
--- What the check's acceptance says: the profile is in range, it has a field, and every rule holds.
--- Every rule has a number of refusal, so a list of rules without a broken one has them all.
+-- What the check's acceptance says: the profile is in range, it has a field, and every rule holds. The list of rules is taken apart once, for
+-- any claim; every rule has a number of refusal, so a list of rules without a broken one has them all.
 -- Assumes nothing.
 use mathlib.Core.Path.{_≡_, sym, ap, _∙_}
-use mathlib.Core.Bool.{true, false}
-use mathlib.Core.List.{_++_}
+use mathlib.Core.Bool.{true, false, not}
+use mathlib.Core.List.{List, _∷_, _++_, flatMap, append-nil}
+use lib.Dec.{eqb, lit≤}
 use Prim.Native.Nat.{ℕ, _<_}
 use native.Mathlib.Omega.{arith}
-use Rattle.profile.specs.Lists.{chunks}
+use Rattle.profile.specs.Lists.{Each, chunks}
 use Rattle.profile.specs.Values.{accepted, refused}
 use Rattle.profile.specs.Geometry.{regionCount}
 use Rattle.profile.specs.Ranges.{inRange}
 use Rattle.profile.specs.Rules.{
+  Entry,
+  rule,
   firstBroken,
   orderEntries,
   toggleEntries,
@@ -22,6 +25,7 @@ use Rattle.profile.specs.Rules.{
   subckEntries,
   shutterEntries,
   rulesOf,
+  entriesOf,
   judge,
   checkProfile,
 }
@@ -32,8 +36,8 @@ use Rattle.profile.specs.declared.Tables.{Tables}
 use Rattle.profile.specs.declared.Field.{Field}
 use Rattle.profile.specs.declared.Profile.{Profile}
 use Rattle.profile.specs.declared.Verdict.{Verdict}
-use Rattle.profile.proofs.Laws.{by-cases}
-use Rattle.profile.proofs.Entries.{Numbered, number-accepted, numbered-append, numbered-chunks}
+use Rattle.profile.proofs.Laws.{by-cases, each-append, each-left, each-right, each-chunks, each-chunk}
+use Rattle.profile.proofs.Entries.{Numbered, number-accepted}
 
 refused-accepted : {A : Type 0} (n at : ℕ) → 0 < n → refused n at ≡ accepted → A
 refused-accepted n at h e = absurd (omega (arith, ap (λ (v : Verdict). v .number) e))
@@ -48,76 +52,130 @@ pub check-judge : (p : Profile) → inRange p ≡ true → checkProfile p ≡ ju
 unfolding checkProfile
 check-judge p h = rw h
 
-pub judge-field : (p : Profile) → judge p ≡ accepted → p .field .present ≡ true
-unfolding judge
-judge-field p e = by-cases (p .field .present) (λ h. h) (λ h. refused-accepted 6 0 (omega arith) (rw h at e))
+-- there is one place, and its field's rules are the rest
+pub judge-entries : (p : Profile) → judge p ≡ firstBroken (rule 6 0 (p .field .present) ∷ rulesOf (p .tables) (p .field))
+unfolding judge entriesOf flatMap
+judge-entries p = rw append-nil
 
-pub judge-rules : (p : Profile) → p .field .present ≡ true → judge p ≡ firstBroken (rulesOf (p .tables) (p .field))
-unfolding judge
-judge-rules p h = rw h
+-- ---- a claim of every rule, part by part
+
+module _ (P : Entry → Type 0) where
+  pub record EachAt (i : ℕ) (m : Mode) (s : Sequence) (a : Pattern) (size : ℕ) : Type 0 where
+    pub given : P (rule 8 i (s .present))
+    pub length : P (rule 9 i (not (eqb (a .length) 0)))
+    pub toggles : (k : ℕ) → k < 6 → Each P (toggleEntries i m a k)
+    pub runs : Each P (runEntries i m s a size)
+
+  pub record EachRule (t : Tables) (f : Field) : Type 0 where
+    pub order : (i : ℕ) → i < regionCount f → Each P (orderEntries f i)
+    pub region : (i : ℕ) → i < regionCount f → Each P (regionEntries t f i)
+    pub lines : Each P (lineEntries t f)
+    pub gates : (k : ℕ) → k < 5 → Each P (gateEntries t f k)
+    pub subck : Each P (subckEntries t)
+    pub shutters : (k : ℕ) → k < 2 → Each P (shutterEntries t f k)
+
+  module _ (i : ℕ) (m : Mode) (s : Sequence) (a : Pattern) (size : ℕ) where
+    abbrev outputs : List Entry
+    outputs = chunks 6 (toggleEntries i m a)
+
+    abbrev run : List Entry
+    run = runEntries i m s a size
+
+    pub at-parts : Each P (entriesAt i m s a size) → EachAt i m s a size
+    unfolding entriesAt
+    at-parts w =
+        record {
+          given = w .0;
+          length = w .1 .0;
+          toggles = each-chunk P 6 (toggleEntries i m a) (each-left P outputs run (w .1 .1));
+          runs = each-right P outputs run (w .1 .1);
+        }
+
+    pub parts-at : EachAt i m s a size → Each P (entriesAt i m s a size)
+    unfolding entriesAt
+    parts-at w = (w .given, (w .length, each-append P outputs run (each-chunks P 6 (toggleEntries i m a) (w .toggles)) (w .runs)))
+
+  module _ (t : Tables) (f : Field) where
+    abbrev order : List Entry
+    order = chunks (regionCount f) (orderEntries f)
+
+    abbrev regions : List Entry
+    regions = chunks (regionCount f) (regionEntries t f)
+
+    abbrev gates : List Entry
+    gates = chunks 5 (gateEntries t f)
+
+    abbrev shutters : List Entry
+    shutters = chunks 2 (shutterEntries t f)
+
+    abbrev to-14 : List Entry
+    to-14 = order ++ regions ++ lineEntries t f
+
+    abbrev to-16 : List Entry
+    to-16 = to-14 ++ gates ++ subckEntries t
+
+    pub rules-parts : Each P (rulesOf t f) → EachRule t f
+    unfolding rulesOf
+    rules-parts w =
+        let w16 = each-left P to-16 shutters w in
+        let w15 = each-left P (to-14 ++ gates) (subckEntries t) w16 in
+        let w14 = each-left P to-14 gates w15 in
+        let w13 = each-left P (order ++ regions) (lineEntries t f) w14 in
+        record {
+          order = each-chunk P (regionCount f) (orderEntries f) (each-left P order regions w13);
+          region = each-chunk P (regionCount f) (regionEntries t f) (each-right P order regions w13);
+          lines = each-right P (order ++ regions) (lineEntries t f) w14;
+          gates = each-chunk P 5 (gateEntries t f) (each-right P to-14 gates w15);
+          subck = each-right P (to-14 ++ gates) (subckEntries t) w16;
+          shutters = each-chunk P 2 (shutterEntries t f) (each-right P to-16 shutters w);
+        }
+
+    pub parts-rules : EachRule t f → Each P (rulesOf t f)
+    unfolding rulesOf
+    parts-rules w =
+        each-append P to-16 shutters
+        (each-append P (to-14 ++ gates) (subckEntries t)
+        (each-append P to-14 gates
+        (each-append P (order ++ regions) (lineEntries t f)
+        (each-append P order regions (each-chunks P (regionCount f) (orderEntries f) (w .order))
+        (each-chunks P (regionCount f) (regionEntries t f) (w .region)))
+        (w .lines))
+        (each-chunks P 5 (gateEntries t f) (w .gates)))
+        (w .subck))
+        (each-chunks P 2 (shutterEntries t f) (w .shutters))
 
 -- ---- every rule has a number
 
-pub numbered-output : (i : ℕ) (m : Mode) (a : Pattern) (k : ℕ) → Numbered (toggleEntries i m a k)
-numbered-output i m a k = (omega arith, tt)
-
 pub numbered-at : (i : ℕ) (m : Mode) (s : Sequence) (a : Pattern) (size : ℕ) → Numbered (entriesAt i m s a size)
-unfolding entriesAt
-numbered-at i m s a size = (
-  omega arith,
-  (
-    omega arith,
-    numbered-append (chunks 6 (toggleEntries i m a)) (runEntries i m s a size)
-        (numbered-chunks 6 (toggleEntries i m a) (numbered-output i m a))
-        (omega arith, (omega arith, (omega arith, tt))),
-  ),
-)
+numbered-at i m s a size =
+    parts-at _ i m s a size
+    (record {
+      given = lit≤ tt;
+      length = lit≤ tt;
+      toggles = λ k h. (lit≤ tt, tt);
+      runs = (lit≤ tt, (lit≤ tt, (lit≤ tt, tt)));
+    })
 
-module _ (t : Tables) (f : Field) where
-  pub numbered-order : (i : ℕ) → Numbered (orderEntries f i)
-  numbered-order i = (omega arith, tt)
+pub numbered-lines : (t : Tables) (f : Field) → Numbered (lineEntries t f)
+unfolding lineEntries
+numbered-lines t f = (lit≤ tt, (lit≤ tt, tt))
 
-  pub numbered-region : (i : ℕ) → Numbered (regionEntries t f i)
-  numbered-region i = numbered-at i _ _ _ _
-
-  pub numbered-lines : Numbered (lineEntries t f)
-  unfolding lineEntries
-  numbered-lines = (omega arith, (omega arith, tt))
-
-  pub numbered-gates : (k : ℕ) → Numbered (gateEntries t f k)
-  numbered-gates k = (omega arith, tt)
-
-  pub numbered-shutters : (k : ℕ) → Numbered (shutterEntries t f k)
-  numbered-shutters k = (omega arith, tt)
-
-  pub numbered-rules : Numbered (rulesOf t f)
-  unfolding rulesOf
-  numbered-rules =
-      let n = regionCount f in
-      let a = chunks n (orderEntries f) in
-      let b = chunks n (regionEntries t f) in
-      let c = lineEntries t f in
-      let d = chunks 5 (gateEntries t f) in
-      numbered-append (a ++ b ++ c ++ d ++ subckEntries t) (chunks 2 (shutterEntries t f))
-      (numbered-append (a ++ b ++ c ++ d) (subckEntries t)
-      (numbered-append (a ++ b ++ c) d
-      (numbered-append (a ++ b) c
-      (numbered-append a b (numbered-chunks n (orderEntries f) numbered-order) (numbered-chunks n (regionEntries t f) numbered-region))
-      numbered-lines)
-      (numbered-chunks 5 (gateEntries t f) numbered-gates))
-      (omega arith, tt))
-      (numbered-chunks 2 (shutterEntries t f) numbered-shutters)
+pub numbered-rules : (t : Tables) (f : Field) → Numbered (rulesOf t f)
+numbered-rules t f =
+    parts-rules _ t f
+    (record {
+      order = λ i h. (lit≤ tt, tt);
+      region = λ i h. numbered-at i _ _ _ _;
+      lines = numbered-lines t f;
+      gates = λ k h. (lit≤ tt, tt);
+      subck = (lit≤ tt, tt);
+      shutters = λ k h. (lit≤ tt, tt);
+    })
 
 -- a judgement of number 0 is `accepted`: there is no other with that number
 pub judge-number : (p : Profile) → judge p .number ≡ 0 → judge p ≡ accepted
-unfolding judge
 judge-number p e =
-    by-cases (p .field .present)
-    (λ h.
-    let q = judge-rules p h in
-    let n = sym (ap (λ (v : Verdict). v .number) q) ∙ e in
-    q ∙ number-accepted (rulesOf (p .tables) (p .field)) (numbered-rules (p .tables) (p .field)) n)
-    (λ h. let z = rw h at e in absurd (omega arith))
+    rw judge-entries (number-accepted _ (lit≤ tt, numbered-rules (p .tables) (p .field)) (rw judge-entries at e))
 
 -- there is no other verdict of number 0
 pub check-number : (p : Profile) → checkProfile p .number ≡ 0 → checkProfile p ≡ accepted

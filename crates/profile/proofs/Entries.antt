@@ -10,7 +10,7 @@ use Rattle.profile.specs.Lists.{Each, chunks}
 use Rattle.profile.specs.Values.{accepted}
 use Rattle.profile.specs.Rules.{Entry, firstBroken}
 use Rattle.profile.specs.declared.Verdict.{Verdict}
-use Rattle.profile.proofs.Laws.{by-cases, each-append, each-chunks}
+use Rattle.profile.proofs.Laws.{by-cases, each-chunks}
 
 -- each entry's verdict has a number of refusal
 abbrev pub Numbered : List Entry → Type 0
@@ -43,9 +43,6 @@ number-accepted (x ∷ es) n e =
     (λ h. let z = rw h at e in absurd (omega (arith, n .0)))
 
 -- ---- two lists, one after the other
-
-pub numbered-append : (a b : List Entry) → Numbered a → Numbered b → Numbered (a ++ b)
-numbered-append = each-append (λ e. 1 ≤ e .verdict .number)
 
 pub fine-then : (a b : List Entry) → Numbered a → firstBroken a ≡ accepted → firstBroken (a ++ b) ≡ firstBroken b
 unfolding firstBroken

@@ -1,5 +1,5 @@
 -- A field's record, written and read again: its head, then region by region.
--- Region i's six bytes lie from 10 + 6i in the body, and the regions past n are the empty ones.
+-- Region i's bytes lie from its start in the body, and the regions past n are the empty ones.
 -- Assumes nothing.
 use mathlib.Core.Path.{_≡_, refl, sym, ap, _∙_}
 use mathlib.Core.Bool.{true}
@@ -8,15 +8,17 @@ use Prim.Native.Nat.{ℕ, _+_, _-_, _*_, _/_, _%_, _<_, _≤_}
 use native.Mathlib.Omega.{arith}
 use borrow.Author.Tests.{ltb-true, ltb-false, le-leb, eq-eqb}
 use lib.Dec.{ltb, leb, eqb}
-use lib.ListN.{length, take, getD, replicate, length-append, length-replicate, getD-replicate, List·getD-append, List·getD-eq-default}
-use lib.Seq.{take-at, getD-append-add, ext-getD}
+use lib.ListN.{length, getD, replicate, length-append, length-replicate, getD-replicate, List·getD-append, List·getD-eq-default}
+use lib.Seq.{getD-append-add, ext-getD}
 use Rattle.profile.specs.Lists.{all, chunks}
-use Rattle.profile.specs.Bytes.{numberAt, twoBytes}
-use Rattle.profile.specs.Values.{modeNumber, modeOf, emptyRegion}
+use Rattle.profile.specs.Bytes.{numberAt}
+use Rattle.profile.specs.Values.{modeNumber, modeOf, emptyRegion, setField}
 use Rattle.profile.specs.Geometry.{regionCount, regionAt}
 use Rattle.profile.specs.Ranges.{fieldRange, regionRange, regionIn}
-use Rattle.profile.specs.Reading.{inField}
 use Rattle.profile.specs.Script.{
+  headLength,
+  regionLength,
+  regionStart,
   regionFrom,
   regionsFrom,
   regionFits,
@@ -24,12 +26,9 @@ use Rattle.profile.specs.Script.{
   fieldFits,
   allowed,
   fits,
-  put,
-  bodyOf,
-  next,
-  step,
+  withRecord,
 }
-use Rattle.profile.specs.Writing.{regionBytes, fieldHead, fieldRecord}
+use Rattle.profile.specs.Writing.{regionBytes, fieldHead, fieldBody, fieldRecord}
 use Rattle.profile.specs.declared.Mode.{Mode}
 use Rattle.profile.specs.declared.Mode.the-variants.{Plain, Sweep, Multiplier}
 use Rattle.profile.specs.declared.Region.{Region}
@@ -37,9 +36,10 @@ use Rattle.profile.specs.declared.Field.{Field}
 use Rattle.profile.specs.declared.Profile.{Profile}
 use Rattle.profile.proofs.Laws.{by-cases, and-intro, passed, all-passed, chunks-all, length-chunks, getD-chunks, length-ones, getD-ones}
 use Rattle.profile.proofs.Items.{field-count, region-present, region-absent}
-use Rattle.profile.proofs.Sizes.{length-field}
+use Rattle.profile.proofs.Stores.{length-body}
 use Rattle.profile.proofs.ByteRange.{mode-below}
-use Rattle.profile.proofs.Bodies.{join-two, step-takes}
+use Rattle.profile.proofs.Takes.{Takes}
+use Rattle.profile.proofs.Bodies.{join-two, takes-written}
 
 mode-back : (m : Mode) → modeOf (modeNumber m) ≡ m
 mode-back Plain = refl
@@ -49,40 +49,33 @@ mode-back Multiplier = refl
 mode-fits : (m : Mode) → leb (modeNumber m) 2 ≡ true
 mode-fits m = le-leb (modeNumber m) 2 (omega (arith, mode-below m))
 
--- the body with n regions
-abbrev bodyWith : Field → ℕ → List ℕ
-bodyWith f n = fieldHead f ++ chunks n (regionBytes f)
-
-length-body : (f : Field) (n : ℕ) → length (bodyWith f n) ≡ 10 + 6 * n
-length-body f n = omega (arith, length-chunks 6 n (regionBytes f) (λ i. refl))
-
 -- ---- one region
 
 module _ (f : Field) (n : ℕ) (i : ℕ) (h : i < n) where
-  byte-at : (j at : ℕ) → j < 6 → at ≡ 10 + 6 * i + j → getD (bodyWith f n) at 0 ≡ getD (regionBytes f i) j 0
+  byte-at : (j at : ℕ) → j < regionLength → at ≡ regionStart i + j → getD (fieldBody f n) at 0 ≡ getD (regionBytes f i) j 0
   byte-at j at l e =
-      let q : at ≡ 10 + (length (chunks i (regionBytes f)) + j) = omega (arith, length-chunks 6 i (regionBytes f) (λ i. refl)) in
-      ap (λ (k : ℕ). getD (bodyWith f n) k 0) q
+      let q : at ≡ headLength + (length (chunks i (regionBytes f)) + j) = omega (arith, length-chunks regionLength i (regionBytes f) (λ i. refl)) in
+      ap (λ (k : ℕ). getD (fieldBody f n) k 0) q
       ∙ getD-append-add (fieldHead f) (chunks n (regionBytes f)) (length (chunks i (regionBytes f)) + j) 0
       ∙ getD-chunks n (regionBytes f) 0 i j h l
 
-  number-is : (j at w : ℕ) → j + 1 < 6 → at ≡ 10 + 6 * i + j → getD (regionBytes f i) j 0 ≡ w % 256
-      → getD (regionBytes f i) (j + 1) 0 ≡ w / 256 → numberAt (bodyWith f n) at ≡ w
+  number-is : (j at w : ℕ) → j + 1 < regionLength → at ≡ regionStart i + j → getD (regionBytes f i) j 0 ≡ w % 256
+      → getD (regionBytes f i) (j + 1) 0 ≡ w / 256 → numberAt (fieldBody f n) at ≡ w
   number-is j at w l e lo hi =
-      let u : j < 6 = omega arith in
-      let v : at + 1 ≡ 10 + 6 * i + (j + 1) = omega arith in
+      let u : j < regionLength = omega arith in
+      let v : at + 1 ≡ regionStart i + (j + 1) = omega arith in
       rw (byte-at j at u e, byte-at (j + 1) (at + 1) l v, lo, hi) (join-two w)
 
-  first-is : numberAt (bodyWith f n) (10 + 6 * i) ≡ regionAt f i .first
-  first-is = number-is 0 (10 + 6 * i) (regionAt f i .first) (omega arith) (omega arith) refl refl
+  first-is : numberAt (fieldBody f n) (regionStart i) ≡ regionAt f i .first
+  first-is = number-is 0 (regionStart i) (regionAt f i .first) (omega arith) (omega arith) refl refl
 
-  sequence-is : numberAt (bodyWith f n) (12 + 6 * i) ≡ regionAt f i .sequence
-  sequence-is = number-is 2 (12 + 6 * i) (regionAt f i .sequence) (omega arith) (omega arith) refl refl
+  sequence-is : numberAt (fieldBody f n) (regionStart i + 2) ≡ regionAt f i .sequence
+  sequence-is = number-is 2 (regionStart i + 2) (regionAt f i .sequence) (omega arith) (omega arith) refl refl
 
-  mode-is : numberAt (bodyWith f n) (14 + 6 * i) ≡ modeNumber (regionAt f i .mode)
-  mode-is = number-is 4 (14 + 6 * i) (modeNumber (regionAt f i .mode)) (omega arith) (omega arith) refl refl
+  mode-is : numberAt (fieldBody f n) (regionStart i + 4) ≡ modeNumber (regionAt f i .mode)
+  mode-is = number-is 4 (regionStart i + 4) (modeNumber (regionAt f i .mode)) (omega arith) (omega arith) refl refl
 
-  region-back : regionFrom (bodyWith f n) i ≡ regionAt f i
+  region-back : regionFrom (fieldBody f n) i ≡ regionAt f i
   region-back j =
       record {
         first = first-is j;
@@ -90,10 +83,10 @@ module _ (f : Field) (n : ℕ) (i : ℕ) (h : i < n) where
         mode = (ap modeOf mode-is ∙ mode-back (regionAt f i .mode)) j;
       }
 
-  region-fits : all (regionRange (regionAt f i)) ≡ true → all (regionFits (bodyWith f n) i) ≡ true
+  region-fits : all (regionRange (regionAt f i)) ≡ true → all (regionFits (fieldBody f n) i) ≡ true
   region-fits e =
       let r = ap (λ (r : Region). all (regionRange r)) region-back ∙ e in
-      all-passed (regionFits (bodyWith f n) i) (rw mode-is (mode-fits (regionAt f i .mode)), passed _ r)
+      all-passed (regionFits (fieldBody f n) i) (rw mode-is (mode-fits (regionAt f i .mode)), passed _ r)
 
 -- ---- a list of n, padded
 
@@ -120,18 +113,18 @@ abbrev regionsWith : List ℕ → ℕ → List Region
 regionsWith b n = regionsFrom b n ++ replicate (7 - n) emptyRegion
 
 regions-back : (f : Field) (n : ℕ) → length (f .regions) ≡ 7 → n ≤ 7 → ((i : ℕ) → i < 7 → n ≤ i → regionAt f i ≡ emptyRegion)
-    → regionsWith (bodyWith f n) n ≡ f .regions
+    → regionsWith (fieldBody f n) n ≡ f .regions
 regions-back f n sized n≤7 past =
-    let l = length-padded n (7 - n) (regionFrom (bodyWith f n)) emptyRegion in
-    ext-getD emptyRegion (regionsWith (bodyWith f n) n) (f .regions) (omega arith)
+    let l = length-padded n (7 - n) (regionFrom (fieldBody f n)) emptyRegion in
+    ext-getD emptyRegion (regionsWith (fieldBody f n) n) (f .regions) (omega arith)
     (λ i h.
     by-cases (ltb i n)
     (λ q.
     let w = ltb-true i n q in
-    padded-front n (7 - n) (regionFrom (bodyWith f n)) emptyRegion i w ∙ region-back f n i w)
+    padded-front n (7 - n) (regionFrom (fieldBody f n)) emptyRegion i w ∙ region-back f n i w)
     (λ q.
     let w = ltb-false i n q in
-    padded-past n (7 - n) (regionFrom (bodyWith f n)) emptyRegion i w ∙ sym (past i (omega arith) w)))
+    padded-past n (7 - n) (regionFrom (fieldBody f n)) emptyRegion i w ∙ sym (past i (omega arith) w)))
 
 module _ (f : Field) (sized : length (f .regions) ≡ 7) (present : f .present ≡ true) (range : all (fieldRange f) ≡ true)
     (regions : (i : ℕ) → i < 7 → regionIn f i ≡ true) where
@@ -141,7 +134,7 @@ module _ (f : Field) (sized : length (f .regions) ≡ 7) (present : f .present �
   count-high : f .count ≤ 7
   count-high = field-count f range .1
 
-  field-back : fieldFrom (bodyWith f (f .count)) ≡ f
+  field-back : fieldFrom (fieldBody f (f .count)) ≡ f
   unfolding fieldFrom
   field-back =
       let r = regions-back f (f .count) sized count-high (λ i h l. region-absent f i (regions i h) l) in
@@ -157,37 +150,29 @@ module _ (f : Field) (sized : length (f .regions) ≡ 7) (present : f .present �
         regions = r i;
       })
 
-  field-fits : fieldFits (bodyWith f (f .count)) ≡ true
+  field-fits : fieldFits (fieldBody f (f .count)) ≡ true
   unfolding fieldFits
   field-fits =
-      let b = bodyWith f (f .count) in
+      let b = fieldBody f (f .count) in
       let n = join-two (f .count) in
       rw (n, field-back)
       (and-intro
-      (all-passed (eqb (10 + 6 * f .count) (length b) ∷ fieldRange f)
+      (all-passed (eqb (headLength + regionLength * f .count) (length b) ∷ fieldRange f)
       (eq-eqb _ _ (sym (length-body f (f .count))), passed (fieldRange f) range))
       (chunks-all (f .count) (regionFits b)
       (λ i h. region-fits f (f .count) i h (region-present f i (regions i (omega (arith, count-high))) h))))
 
-  pub length-record : length (fieldRecord f) ≡ 4 + (10 + 6 * f .count)
-  length-record = omega (arith, length-field f, count-high)
-
-  pub step-field : (rest : List ℕ) (p : Profile) → step (fieldRecord f ++ rest) p ≡ next (10 + 6 * f .count) (inField f p)
-  unfolding allowed fits put
-  step-field rest p =
+  pub takes-field : (p : Profile) → Takes (fieldRecord f) p (setField f p)
+  unfolding allowed fits withRecord
+  takes-field p =
       let c : regionCount f ≡ f .count = omega (arith, count-high) in
-      let len = 10 + 6 * f .count in
-      let b = bodyWith f (f .count) in
-      let s = twoBytes (len ∷ 3 ∷ []) ++ (b ++ rest) in
-      let j : numberAt s 0 ≡ len = join-two len in
-      let t : bodyOf s ≡ b = ap (λ (k : ℕ). take k (b ++ rest)) j ∙ take-at b rest len (length-body f (f .count)) in
-      let m : (len - 10) % 6 ≡ 0 = omega arith in
-      let a : allowed 3 len ≡ true =
-      and-intro
-      (and-intro (le-leb 16 len (omega (arith, count-low))) (le-leb len 52 (omega (arith, count-high))))
-      (eq-eqb ((len - 10) % 6) 0 m) in
+      let len = headLength + regionLength * f .count in
+      let m : (len - headLength) % regionLength ≡ 0 = omega arith in
       rw c
-      (step-takes s p refl (rw j a) (rw j (omega (arith, length-body f (f .count), length-append b rest))) (ap (fits 3) t ∙ field-fits)
-      ∙ ap (λ (k : ℕ). next k (put 3 (bodyOf s) p)) j
-      ∙ ap (λ (l : List ℕ). next len (put 3 l p)) t
-      ∙ ap (λ (g : Field). next len (inField g p)) field-back)
+      (takes-written 3 (fieldBody f (f .count)) refl
+      (rw (length-body f (f .count))
+      (and-intro
+      (and-intro (le-leb 16 len (omega (arith, count-low))) (le-leb len 52 (omega (arith, count-high))))
+      (eq-eqb ((len - headLength) % regionLength) 0 m)))
+      field-fits
+      (ap (λ (g : Field). setField g p) field-back))

@@ -1,34 +1,29 @@
 -- The verdict of rules as the code finds it: part after part, entry after entry. A part that is fine hands on to the next, a broken one
 -- answers for the whole.
 -- Assumes nothing.
-use Prim.Native.Nat.{ℕ, zero, suc, _+_, _-_, _≤_, _<_}
-use native.Mathlib.Numerals.{add-one}
+use Prim.Native.Nat.{ℕ, _+_, _-_, _≤_, _<_}
 use native.Mathlib.Omega.{arith}
 use mathlib.Core.Path.{_≡_, refl, sym, ap, _∙_}
-use mathlib.Core.Bool.{Bool, true, false, cond, not, _&&_, _||_}
+use mathlib.Core.Bool.{Bool, true, false, cond, not, _||_}
 use mathlib.Core.List.{List, [], _∷_, _++_, append-assoc, map}
 use lib.ListN.{getD}
-use lib.Dec.{eqb, ltb, lit≤}
-use borrow.Author.Tests.{eq-eqb, ne-eqb, lt-ltb, le-ltb}
+use lib.Dec.{eqb, lit≤}
+use borrow.Author.Tests.{not-true, not-false, eq-eqb, ne-eqb, lt-ltb, le-ltb}
 use Rattle.profile.specs.Lists.{all, chunks}
-use Rattle.profile.specs.Values.{accepted, refused, emptyGate}
-use Rattle.profile.specs.Geometry.{regionCount, gateLines}
+use Rattle.profile.specs.Values.{accepted, refused}
+use Rattle.profile.specs.Geometry.{regionCount, gateOf, gateLines}
+use Rattle.profile.specs.Patterns.{rowOf, rowsOf, used}
 use Rattle.profile.specs.Rules.{
   Entry,
   rule,
   firstBroken,
-  togglesRight,
-  maskRight,
-  countsRight,
-  endsRight,
+  rowRight,
   hasSecond,
   secondOf,
   secondRight,
   gateRight,
   orderEntries,
   toggleEntries,
-  runEntries,
-  entriesAt,
   regionEntries,
   lineEntries,
   gateEntries,
@@ -38,209 +33,214 @@ use Rattle.profile.specs.Rules.{
   judge,
 }
 use Rattle.profile.specs.declared.Mode.{Mode}
-use Rattle.profile.specs.declared.Sequence.{Sequence}
 use Rattle.profile.specs.declared.Pattern.{Pattern}
 use Rattle.profile.specs.declared.Tables.{Tables}
 use Rattle.profile.specs.declared.Field.{Field}
 use Rattle.profile.specs.declared.Profile.{Profile}
 use Rattle.profile.specs.declared.Verdict.{Verdict}
-use Rattle.profile.proofs.Laws.{by-cases, or-left, all-one, chunks-more, chunks-add}
-use Rattle.profile.proofs.Tested.{joined-all, tests-next}
+use Rattle.profile.proofs.Laws.{or-left, tested-no, tested-yes, all-one, chunks-more, chunks-add}
 use Rattle.profile.proofs.Entries.{Numbered, fine-then, broken-then, number-accepted, numbered-chunks}
-use Rattle.profile.proofs.Checked.{judge-rules, numbered-output}
+use Rattle.profile.proofs.Checked.{judge-entries, numbered-at, numbered-lines}
+
+-- ---- one entry, and what follows it
+
+module _ (n at : ℕ) (b : Bool) (es : List Entry) {v : Verdict} where
+  pub head-broken : b ≡ false → v ≡ refused n at → v ≡ firstBroken (rule n at b ∷ es)
+  unfolding firstBroken
+  head-broken e f = f ∙ rw e
+
+  -- past an entry that holds, what follows decides
+  pub head-on : b ≡ true → v ≡ firstBroken es → v ≡ firstBroken (rule n at b ∷ es)
+  unfolding firstBroken
+  head-on e f = f ∙ rw e
+
+pub none-broken : {v : Verdict} → v ≡ accepted → v ≡ firstBroken []
+unfolding firstBroken
+none-broken e = e
+
+-- 9: a number that is not another
+pub differ-no : (n k : ℕ) → n ≡ k → not (eqb n k) ≡ false
+differ-no n k e = ap not (eq-eqb n k e)
+
+pub differ-yes : (n k : ℕ) → (n ≡ k → ⊥) → not (eqb n k) ≡ true
+differ-yes n k e = ap not (ne-eqb n k e)
 
 -- ---- two parts
 
 not-accepted : (v : Verdict) → (v .number ≡ 0 → ⊥) → v ≡ accepted → ⊥
 not-accepted v n e = n (ap (λ (w : Verdict). w .number) e)
 
-pub part-broken : (a b : List Entry) {v : Verdict} → v ≡ firstBroken a → (v .number ≡ 0 → ⊥) → v ≡ firstBroken (a ++ b)
-part-broken a b {v} e n = e ∙ sym (broken-then a b (λ z. not-accepted v n (e ∙ z)))
+number-of : {v w : Verdict} → v ≡ w → v .number ≡ 0 → w .number ≡ 0
+number-of e z = sym (ap (λ (w : Verdict). w .number) e) ∙ z
 
-pub part-fine : (a b : List Entry) {v : Verdict} → Numbered a → v ≡ firstBroken a → v .number ≡ 0 → firstBroken (a ++ b) ≡ firstBroken b
-part-fine a b m e z = fine-then a b m (number-accepted a m (sym (ap (λ (w : Verdict). w .number) e) ∙ z))
+module _ (a b : List Entry) {v : Verdict} (e : v ≡ firstBroken a) where
+  pub part-broken : (v .number ≡ 0 → ⊥) → v ≡ firstBroken (a ++ b)
+  part-broken n = e ∙ sym (broken-then a b (λ z. not-accepted v n (e ∙ z)))
 
--- ---- a loop over chunks
+  -- past a part that is fine, what follows decides
+  pub part-on : {w : Verdict} → v .number ≡ 0 → Numbered a → w ≡ firstBroken b → w ≡ firstBroken (a ++ b)
+  part-on z m f = f ∙ sym (fine-then a b m (number-accepted a m (number-of e z)))
 
-pub chunks-start : (f : ℕ → List Entry) → firstBroken (chunks 0 f) ≡ accepted
+-- ---- a loop over n chunks of entries, the first i of which are fine; m is n in the rules' words
+
+pub record Fine (n m : ℕ) (f : ℕ → List Entry) (i : ℕ) : Type 0 where
+  pub count : n ≡ m
+  pub numbered : (i : ℕ) → Numbered (f i)
+  pub most : i ≤ n
+  pub so-far : firstBroken (chunks i f) ≡ accepted
+
+pub fine-start : {n m : ℕ} {f : ℕ → List Entry} → n ≡ m → ((i : ℕ) → Numbered (f i)) → Fine n m f 0
 unfolding chunks firstBroken
-chunks-start f = refl
+fine-start e h = record { count = e; numbered = h; most = omega arith; so-far = refl }
 
-module _ (f : ℕ → List Entry) (m : (i : ℕ) → Numbered (f i)) (i : ℕ) (done : firstBroken (chunks i f) ≡ accepted) where
-  here : firstBroken (chunks (i + 1) f) ≡ firstBroken (f i)
-  here = ap firstBroken (chunks-more i f) ∙ fine-then (chunks i f) (f i) (numbered-chunks i f m) done
+module _ {n m i : ℕ} {f : ℕ → List Entry} (d : Fine n m f i) where
+  pub fine-end : {v : Verdict} → n ≤ i → v ≡ accepted → v ≡ firstBroken (chunks m f)
+  fine-end h z = let e : i ≡ m = omega (arith, d .count, d .most) in z ∙ sym (rw e at (d .so-far))
 
-  pub chunks-on : firstBroken (f i) ≡ accepted → firstBroken (chunks (i + 1) f) ≡ accepted
-  chunks-on e = here ∙ e
+  module _ (l : i < n) where
+    here : firstBroken (chunks (i + 1) f) ≡ firstBroken (f i)
+    here = ap firstBroken (chunks-more i f) ∙ fine-then (chunks i f) (f i) (numbered-chunks i f (d .numbered)) (d .so-far)
 
-  pub chunks-fine-on : {v : Verdict} → v ≡ firstBroken (f i) → v .number ≡ 0 → firstBroken (chunks (i + 1) f) ≡ accepted
-  chunks-fine-on e z = here ∙ number-accepted (f i) (m i) (sym (ap (λ (w : Verdict). w .number) e) ∙ z)
+    pub fine-on : accepted ≡ firstBroken (f i) → Fine n m f (i + 1)
+    fine-on e = record { count = d .count; numbered = d .numbered; most = omega arith; so-far = here ∙ sym e }
 
-  pub chunks-stop : (n : ℕ) {v : Verdict} → i < n → v ≡ firstBroken (f i) → (v .number ≡ 0 → ⊥) → v ≡ firstBroken (chunks n f)
-  chunks-stop n h e z =
-      let k : (i + 1) + (n - (i + 1)) ≡ n = omega arith in
-      part-broken (chunks (i + 1) f) (chunks (n - (i + 1)) (λ j. f (i + 1 + j))) (e ∙ sym here) z
-      ∙ ap firstBroken (sym (chunks-add (i + 1) (n - (i + 1)) f))
-      ∙ ap (λ (j : ℕ). firstBroken (chunks j f)) k
+    module _ {v : Verdict} (e : v ≡ firstBroken (f i)) where
+      pub fine-next : v .number ≡ 0 → Fine n m f (i + 1)
+      fine-next z = fine-on (sym (number-accepted (f i) (d .numbered i) (number-of e z)))
 
--- ---- one entry, and what follows it
+      pub fine-stop : (v .number ≡ 0 → ⊥) → v ≡ firstBroken (chunks m f)
+      fine-stop z =
+          let k : (i + 1) + (m - (i + 1)) ≡ m = omega (arith, d .count) in
+          part-broken (chunks (i + 1) f) (chunks (m - (i + 1)) (λ j. f (i + 1 + j))) (e ∙ sym here) z
+          ∙ ap firstBroken (sym (chunks-add (i + 1) (m - (i + 1)) f))
+          ∙ ap (λ (j : ℕ). firstBroken (chunks j f)) k
 
-pub head-fine : (n at : ℕ) {b : Bool} (es : List Entry) → b ≡ true → firstBroken (rule n at b ∷ es) ≡ firstBroken es
-unfolding firstBroken
-head-fine n at es e = rw e
-
-pub head-broken : (n at : ℕ) {b : Bool} (es : List Entry) → b ≡ false → refused n at ≡ firstBroken (rule n at b ∷ es)
-unfolding firstBroken
-head-broken n at es e = rw e
-
-pub one-fine : (n at : ℕ) {b : Bool} → b ≡ true → firstBroken (rule n at b ∷ []) ≡ accepted
-unfolding firstBroken
-one-fine n at e = head-fine n at [] e
-
-pub one-broken : (n at : ℕ) {b : Bool} → b ≡ false → refused n at ≡ firstBroken (rule n at b ∷ [])
-one-broken n at e = head-broken n at [] e
-
--- six tests at once
-pub all-six : (f : ℕ → Bool) → f 0 && f 1 && f 2 && f 3 && f 4 && f 5 ≡ all (chunks 6 (λ k. f k ∷ []))
-unfolding chunks
-all-six f = joined-all (f 0) (f 1 ∷ f 2 ∷ f 3 ∷ f 4 ∷ f 5 ∷ [])
+      -- v as its rule says it
+      pub fine-refused : {number : ℕ} → v ≡ refused number i → 1 ≤ number → v ≡ firstBroken (chunks m f)
+      fine-refused r p = fine-stop (λ z. absurd (omega (arith, number-of r z)))
 
 -- 15 on a gate line of the given length: what `gateEntries` is at the field's gate line
 abbrev pub gatesOn : Tables → ℕ → ℕ → List Entry
-gatesOn t length k = rule 15 k (all (gateRight (getD (t .gates) k emptyGate) length ∷ [])) ∷ []
+gatesOn t length k = rule 15 k (all (gateRight (gateOf t k) length ∷ [])) ∷ []
 
--- entries of one verdict, in chunks of one
-module _ (number at : ℕ) (numbered : 1 ≤ number) (b : ℕ → Bool) where
-  abbrev entry : ℕ → List Entry
-  entry k = rule number at (b k) ∷ []
+pub gates-length : (t : Tables) {v : Verdict} {m n : ℕ} → m ≡ n → v ≡ firstBroken (chunks 5 (gatesOn t m)) → v ≡ firstBroken (chunks 5 (gatesOn t n))
+gates-length t e f = f ∙ ap (λ (m : ℕ). firstBroken (chunks 5 (gatesOn t m))) e
 
-  abbrev test : ℕ → List Bool
-  test k = b k ∷ []
+pub one-test : (b : Bool) {c : Bool} → b ≡ c → all (b ∷ []) ≡ c
+one-test b e = all-one b ∙ e
 
-  one-verdict : (n : ℕ) → firstBroken (entry n) ≡ cond (b n) accepted (refused number at)
-  unfolding firstBroken
-  one-verdict n = refl
+-- entries of one number and place have one verdict
+same-verdict : (n at : ℕ) (bs : List Bool) → firstBroken (map (rule n at) bs) ≡ cond (all bs) accepted (refused n at)
+unfolding firstBroken all
+same-verdict n at [] = refl
+same-verdict n at (true ∷ bs) = same-verdict n at bs
+same-verdict n at (false ∷ bs) = refl
 
-  pub same-verdict : (n : ℕ) → firstBroken (chunks n entry) ≡ cond (all (chunks n test)) accepted (refused number at)
-  unfolding chunks firstBroken all
-  same-verdict zero = refl
-  same-verdict (suc n) =
-      let ih = same-verdict n in
-      let more = rw add-one at (tests-next n b) in
-      by-cases (all (chunks n test))
-      (λ e.
-      fine-then (chunks n entry) (entry n) (numbered-chunks n entry (λ k. (numbered, tt))) (ih ∙ rw e)
-      ∙ one-verdict n
-      ∙ rw (more, e))
-      (λ e.
-      let q : firstBroken (chunks n entry) ≡ refused number at = ih ∙ rw e in
-      broken-then (chunks n entry) (entry n) (λ z. omega (arith, ap (λ (v : Verdict). v .number) (sym z ∙ q)))
-      ∙ q
-      ∙ rw (more, e))
+-- ---- 10 at one region, and what follows it
 
--- ---- 8 to 13 at one region
+-- the six rows of a pattern's toggles, each tested
+pub rows-tests : {r : Bool} {rows : List (List ℕ)} (uses : ℕ → Bool) (l : List ℕ) → rows ≡ rowsOf l
+    → r ≡ all (chunks 6 (λ k. rowRight uses (getD rows k []) ∷ [])) → r ≡ all (chunks 6 (λ k. rowRight uses (rowOf l k) ∷ []))
+unfolding chunks
+rows-tests uses l e f = f ∙ rw e
 
-module _ (i : ℕ) (m : Mode) (s : Sequence) (a : Pattern) (size : ℕ) where
+module _ (i : ℕ) (m : Mode) (a : Pattern) where
   abbrev Toggles : Bool
-  Toggles = all (chunks 6 (λ k. togglesRight m a k ∷ []))
+  Toggles = all (chunks 6 (λ k. rowRight (used m (a .length)) (rowOf (a .toggles) k) ∷ []))
 
-  pub broken-8 : s .present ≡ false → refused 8 i ≡ firstBroken (entriesAt i m s a size)
-  unfolding entriesAt
-  broken-8 e = head-broken 8 i _ e
+  abbrev toggles : List Entry
+  toggles = chunks 6 (toggleEntries i m a)
 
-  module _ (given : s .present ≡ true) where
-    after-8 : firstBroken (entriesAt i m s a size)
-        ≡ firstBroken (rule 9 i (not (eqb (a .length) 0)) ∷ chunks 6 (toggleEntries i m a) ++ runEntries i m s a size)
-    unfolding entriesAt
-    after-8 = head-fine 8 i _ given
+  toggles-verdict : firstBroken toggles ≡ cond Toggles accepted (refused 10 i)
+  unfolding chunks
+  toggles-verdict = same-verdict 10 i (chunks 6 (λ k. rowRight (used m (a .length)) (rowOf (a .toggles) k) ∷ []))
 
-    pub broken-9 : a .length ≡ 0 → refused 9 i ≡ firstBroken (entriesAt i m s a size)
-    broken-9 e = sym (after-8 ∙ sym (head-broken 9 i _ (ap not (eq-eqb (a .length) 0 e))))
+  pub toggles-broken : Toggles ≡ false → (es : List Entry) {v : Verdict} → v ≡ refused 10 i → v ≡ firstBroken (toggles ++ es)
+  toggles-broken e es f = f ∙ part-broken toggles es (sym (toggles-verdict ∙ rw e)) (omega arith)
 
-    module _ (some : a .length ≡ 0 → ⊥) where
-      after-9 : firstBroken (entriesAt i m s a size) ≡ firstBroken (chunks 6 (toggleEntries i m a) ++ runEntries i m s a size)
-      after-9 = after-8 ∙ head-fine 9 i _ (ap not (ne-eqb (a .length) 0 some))
+  pub toggles-on : Toggles ≡ true → (es : List Entry) {v : Verdict} → v ≡ firstBroken es → v ≡ firstBroken (toggles ++ es)
+  toggles-on e es =
+      let fine : accepted ≡ firstBroken toggles = sym (toggles-verdict ∙ rw e) in
+      part-on toggles es fine refl (numbered-chunks 6 _ (λ k. (lit≤ tt, tt)))
 
-      -- the six entries of 10 have one verdict
-      toggles-verdict : firstBroken (chunks 6 (toggleEntries i m a)) ≡ cond Toggles accepted (refused 10 i)
-      toggles-verdict = same-verdict 10 i (lit≤ tt) (λ k. togglesRight m a k) 6
+-- ---- 14: one gate line
 
-      pub broken-10 : Toggles ≡ false → refused 10 i ≡ firstBroken (entriesAt i m s a size)
-      broken-10 e =
-          part-broken (chunks 6 (toggleEntries i m a)) (runEntries i m s a size) (sym (toggles-verdict ∙ rw e)) (omega arith) ∙ sym after-9
+abbrev second-test : Tables → Field → Bool
+second-test t f = not (hasSecond f) || all (map (secondRight t f (secondOf t f)) (gateLines f))
 
-      module _ (toggles : Toggles ≡ true) where
-        after-10 : firstBroken (entriesAt i m s a size) ≡ firstBroken (runEntries i m s a size)
-        after-10 = after-9 ∙ fine-then (chunks 6 (toggleEntries i m a)) (runEntries i m s a size) (numbered-chunks 6 _ (numbered-output i m a)) (toggles-verdict ∙ rw toggles)
+second-is : (t : Tables) (f : Field) {a : Pattern} {r : Bool} → (f .second ≡ 65535 → ⊥) → a ≡ secondOf t f → r ≡ secondRight t f a (f .gate)
+    → r ≡ second-test t f
+second-is t f n ea er = er ∙ rw (ea, ne-eqb (f .second) 65535 n) (sym (all-one _))
 
-        pub broken-11 : maskRight m (s .mask) a ≡ false → refused 11 i ≡ firstBroken (entriesAt i m s a size)
-        broken-11 e = head-broken 11 i _ e ∙ sym after-10
-
-        module _ (masks : maskRight m (s .mask) a ≡ true) where
-          after-11 : firstBroken (entriesAt i m s a size)
-              ≡ firstBroken (rule 12 i (countsRight m s a) ∷ rule 13 i (endsRight m s a size) ∷ [])
-          after-11 = after-10 ∙ head-fine 11 i _ masks
-
-          pub broken-12 : countsRight m s a ≡ false → refused 12 i ≡ firstBroken (entriesAt i m s a size)
-          broken-12 e = head-broken 12 i _ e ∙ sym after-11
-
-          module _ (counts : countsRight m s a ≡ true) where
-            after-12 : firstBroken (entriesAt i m s a size) ≡ firstBroken (rule 13 i (endsRight m s a size) ∷ [])
-            after-12 = after-11 ∙ head-fine 12 i _ counts
-
-            pub broken-13 : endsRight m s a size ≡ false → refused 13 i ≡ firstBroken (entriesAt i m s a size)
-            broken-13 e = one-broken 13 i e ∙ sym after-12
-
-            pub region-fine : endsRight m s a size ≡ true → accepted ≡ firstBroken (entriesAt i m s a size)
-            region-fine e = sym (after-12 ∙ one-fine 13 i e)
-
--- ---- 14
-
-module _ (t : Tables) (f : Field) where
-  abbrev Below : Bool
-  Below = all (map (λ (g : ℕ). ltb g (f .lines)) (gateLines f))
-
-  abbrev Second : Bool
-  Second = secondRight t f (secondOf t f) (f .gate)
-
-  pub line-out : f .lines ≤ f .gate → refused 14 0 ≡ firstBroken (lineEntries t f)
+module _ (t : Tables) (f : Field) {v : Verdict} where
+  pub line-out : f .lines ≤ f .gate → v ≡ refused 14 0 → v ≡ firstBroken (lineEntries t f)
   unfolding lineEntries
-  line-out h = head-broken 14 0 _ (all-one _ ∙ le-ltb (f .gate) (f .lines) h)
+  line-out h = head-broken _ _ _ _ (all-one _ ∙ le-ltb (f .gate) (f .lines) h)
 
   module _ (h : f .gate < f .lines) where
-    after-line : firstBroken (lineEntries t f)
-        ≡ firstBroken (rule 14 0 (not (hasSecond f) || all (map (secondRight t f (secondOf t f)) (gateLines f))) ∷ [])
+    line-on : v ≡ firstBroken (rule 14 0 (second-test t f) ∷ []) → v ≡ firstBroken (lineEntries t f)
     unfolding lineEntries
-    after-line = head-fine 14 0 _ (all-one _ ∙ lt-ltb (f .gate) (f .lines) h)
+    line-on = head-on _ _ _ _ (all-one _ ∙ lt-ltb (f .gate) (f .lines) h)
 
-    pub no-second : f .second ≡ 65535 → accepted ≡ firstBroken (lineEntries t f)
-    no-second e = sym (after-line ∙ one-fine 14 0 (or-left _ _ (ap (λ (b : Bool). not (not b)) (eq-eqb (f .second) 65535 e))))
+    pub no-second : f .second ≡ 65535 → v ≡ accepted → v ≡ firstBroken (lineEntries t f)
+    no-second e a = line-on (head-on _ _ _ _ (or-left _ _ (ap (λ (b : Bool). not (not b)) (eq-eqb (f .second) 65535 e))) (none-broken a))
 
-    module _ (n : f .second ≡ 65535 → ⊥) where
-      second-is : not (hasSecond f) || all (map (secondRight t f (secondOf t f)) (gateLines f)) ≡ Second
-      second-is = ap (λ (b : Bool). not (not b) || all (Second ∷ [])) (ne-eqb (f .second) 65535 n) ∙ all-one Second
+    -- the second pattern, and its test, as the code has them
+    module _ (n : f .second ≡ 65535 → ⊥) {a : Pattern} {r : Bool} (ea : a ≡ secondOf t f) (er : r ≡ secondRight t f a (f .gate)) where
+      pub second-broken : not r ≡ true → v ≡ refused 14 0 → v ≡ firstBroken (lineEntries t f)
+      second-broken e a = line-on (head-broken _ _ _ _ (tested-no (second-is t f n ea er) e) a)
 
-      pub second-broken : Second ≡ false → refused 14 0 ≡ firstBroken (lineEntries t f)
-      second-broken e = one-broken 14 0 (second-is ∙ e) ∙ sym after-line
-
-      pub second-fine : Second ≡ true → accepted ≡ firstBroken (lineEntries t f)
-      second-fine e = sym (after-line ∙ one-fine 14 0 (second-is ∙ e))
+      pub second-fine : not r ≡ false → v ≡ accepted → v ≡ firstBroken (lineEntries t f)
+      second-fine e a = line-on (head-on _ _ _ _ (tested-yes (second-is t f n ea er) e) (none-broken a))
 
   -- ---- 7 to 17 in two parts
 
-  pub rules-parts : firstBroken (rulesOf t f)
+  pub rules-parts : v
       ≡ firstBroken
       (chunks (regionCount f) (orderEntries f)
       ++ (chunks (regionCount f) (regionEntries t f)
       ++ (lineEntries t f ++ (chunks 5 (gateEntries t f) ++ (subckEntries t ++ chunks 2 (shutterEntries t f))))))
+      → v ≡ firstBroken (rulesOf t f)
   unfolding rulesOf
-  rules-parts = simp append-assoc
+  rules-parts e = e ∙ simp append-assoc
 
 -- ---- 6
 
-pub judge-none : (p : Profile) → p .field .present ≡ false → refused 6 0 ≡ judge p
-unfolding judge
-judge-none p e = sym (ap (λ (b : Bool). cond b (firstBroken (rulesOf (p .tables) (p .field))) (refused 6 0)) e)
+module _ (p : Profile) {v : Verdict} where
+  pub judge-none : p .field .present ≡ false → v ≡ refused 6 0 → v ≡ judge p
+  judge-none e f = rw judge-entries (head-broken _ _ _ _ e f)
 
-pub judge-some : (p : Profile) → p .field .present ≡ true → firstBroken (rulesOf (p .tables) (p .field)) ≡ judge p
-judge-some p e = sym (judge-rules p e)
+  pub judge-some : p .field .present ≡ true → v ≡ firstBroken (rulesOf (p .tables) (p .field)) → v ≡ judge p
+  judge-some e f = rw judge-entries (head-on _ _ _ _ e f)
+
+-- ---- the sets that `search` is handed
+
+-- a verdict by its rules
+pub ruleset judging = (
+  head-broken,
+  head-on,
+  none-broken,
+  part-broken,
+  part-on,
+  one-test,
+  tested-no,
+  tested-yes,
+  not-true,
+  not-false,
+  differ-no,
+  differ-yes,
+  numbered-at,
+  numbered-lines,
+  numbered-chunks,
+  lit≤,
+  line-out,
+  no-second,
+  second-broken,
+  second-fine,
+  rules-parts,
+  judge-none,
+  judge-some,
+)
+
+-- and in a loop over entries
+pub ruleset passing = (fine-start, fine-end, fine-on, fine-next, fine-refused, fine-stop, judging)

@@ -1,7 +1,7 @@
 -- "A later record for the same item replaces the earlier": in the profile of a list of records an item is what the last record for it says, and
 -- empty where none is for it. A record leaves every other item as it was, and puts its own whatever was there.
 -- Assumes nothing.
-use Prim.Native.Nat.{ℕ, _+_, _*_, _≤_}
+use Prim.Native.Nat.{ℕ, _+_, _*_, _≤_, _<_}
 use native.Mathlib.Omega.{arith}
 use mathlib.Core.Path.{_≡_, refl, sym, ap, subst, _∙_}
 use mathlib.Core.List.{List, [], _∷_, _++_}
@@ -9,7 +9,7 @@ use lib.ListN.{length, getD, set, length-set}
 use lib.Seq.{getD-set-same, getD-set-other}
 use Rattle.profile.specs.Bytes.{numberAt}
 use Rattle.profile.specs.Values.{Sized, emptyProfile}
-use Rattle.profile.specs.Script.{put}
+use Rattle.profile.specs.Script.{withRecord}
 use Rattle.profile.specs.Records.{
   Fits,
   register-fits,
@@ -19,7 +19,7 @@ use Rattle.profile.specs.Records.{
   subck-fits,
   shutter-fits,
   Record,
-  putAll,
+  withRecords,
   profileOf,
   Item,
   register,
@@ -33,7 +33,7 @@ use Rattle.profile.specs.Records.{
   Same,
 }
 use Rattle.profile.specs.declared.Profile.{Profile}
-use Rattle.profile.proofs.Puts.{put-sized}
+use Rattle.profile.proofs.Puts.{by-kind, with-sized}
 use Rattle.profile.proofs.Reading.{empty-sized}
 use Rattle.profile.proofs.Scripts.{fits-test}
 
@@ -64,45 +64,27 @@ other-halves l a c v w n = (
   getD-set-other (set l (2 * a) v) (2 * a + 1) (2 * c + 1) w 0 (λ e. n (omega (arith, e))) ∙ getD-set-other l (2 * a) (2 * c + 1) v 0 (λ e. omega (arith, e)),
 )
 
+-- q, after a record for item j, has in item i what p has, where they are not the same item
+abbrev Left : Item → Profile → Item → Profile → Type 0
+Left i p j q = (j ≡ i → ⊥) → Same i q p
+
 -- every other item is left as it was
-put-other : (b : List ℕ) (k : ℕ) → Fits b k → (i : Item) (p : Profile) → (itemOf k b ≡ i → ⊥) → Same i (put k b p) p
-unfolding put
-put-other b k (register-fits h w) (register c) p n = other-halves (p .tables .registers) (getD b 0 0) c _ _ (λ e. n (ap register e))
-put-other b k (sequence-fits h w) (sequence c) p n = getD-set-other (p .tables .sequences) (numberAt b 0) c _ _ (λ e. n (ap sequence (sym e)))
-put-other b k (field-fits h w r) field p n = absurd (n refl)
-put-other b k (gate-fits h w) (gate c) p n = getD-set-other (p .tables .gates) (numberAt b 0) c _ _ (λ e. n (ap gate (sym e)))
-put-other b k (subck-fits w) subck p n = absurd (n refl)
-put-other b k (shutter-fits h w) (shutter c) p n = getD-set-other (p .tables .shutters) (numberAt b 0) c _ _ (λ e. n (ap shutter (sym e)))
-put-other b k (register-fits h w) (sequence c) p n = refl
-put-other b k (register-fits h w) field p n = refl
-put-other b k (register-fits h w) (gate c) p n = refl
-put-other b k (register-fits h w) subck p n = refl
-put-other b k (register-fits h w) (shutter c) p n = refl
-put-other b k (sequence-fits h w) (register c) p n = (refl, refl)
-put-other b k (sequence-fits h w) field p n = refl
-put-other b k (sequence-fits h w) (gate c) p n = refl
-put-other b k (sequence-fits h w) subck p n = refl
-put-other b k (sequence-fits h w) (shutter c) p n = refl
-put-other b k (field-fits h w r) (register c) p n = (refl, refl)
-put-other b k (field-fits h w r) (sequence c) p n = refl
-put-other b k (field-fits h w r) (gate c) p n = refl
-put-other b k (field-fits h w r) subck p n = refl
-put-other b k (field-fits h w r) (shutter c) p n = refl
-put-other b k (gate-fits h w) (register c) p n = (refl, refl)
-put-other b k (gate-fits h w) (sequence c) p n = refl
-put-other b k (gate-fits h w) field p n = refl
-put-other b k (gate-fits h w) subck p n = refl
-put-other b k (gate-fits h w) (shutter c) p n = refl
-put-other b k (subck-fits w) (register c) p n = (refl, refl)
-put-other b k (subck-fits w) (sequence c) p n = refl
-put-other b k (subck-fits w) field p n = refl
-put-other b k (subck-fits w) (gate c) p n = refl
-put-other b k (subck-fits w) (shutter c) p n = refl
-put-other b k (shutter-fits h w) (register c) p n = (refl, refl)
-put-other b k (shutter-fits h w) (sequence c) p n = refl
-put-other b k (shutter-fits h w) field p n = refl
-put-other b k (shutter-fits h w) (gate c) p n = refl
-put-other b k (shutter-fits h w) subck p n = refl
+with-other : (k : ℕ) (b : List ℕ) (i : Item) (p : Profile) → (itemOf k b ≡ i → ⊥) → Same i (withRecord k b p) p
+unfolding withRecord
+with-other k b (register c) p =
+    by-kind (Left (register c) p) k (λ n. other-halves (p .tables .registers) (getD b 0 0) c _ _ (λ e. n (ap register e)))
+    (λ n. (refl, refl)) (λ n. (refl, refl)) (λ n. (refl, refl)) (λ n. (refl, refl)) (λ n. (refl, refl))
+with-other k b (sequence c) p =
+    by-kind (Left (sequence c) p) k (λ n. refl) (λ n. getD-set-other (p .tables .sequences) (numberAt b 0) c _ _ (λ e. n (ap sequence (sym e))))
+    (λ n. refl) (λ n. refl) (λ n. refl) (λ n. refl)
+with-other k b field p = by-kind (Left field p) k (λ n. refl) (λ n. refl) (λ n. absurd (n refl)) (λ n. refl) (λ n. refl) (λ n. refl)
+with-other k b (gate c) p =
+    by-kind (Left (gate c) p) k (λ n. refl) (λ n. refl) (λ n. refl)
+    (λ n. getD-set-other (p .tables .gates) (numberAt b 0) c _ _ (λ e. n (ap gate (sym e)))) (λ n. refl) (λ n. refl)
+with-other k b subck p = by-kind (Left subck p) k (λ n. refl) (λ n. refl) (λ n. refl) (λ n. refl) (λ n. absurd (n refl)) (λ n. refl)
+with-other k b (shutter c) p =
+    by-kind (Left (shutter c) p) k (λ n. refl) (λ n. refl) (λ n. refl) (λ n. refl) (λ n. refl)
+    (λ n. getD-set-other (p .tables .shutters) (numberAt b 0) c _ _ (λ e. n (ap shutter (sym e))))
 
 -- both halves of register a, where it is set
 own-halves : (l : List ℕ) (a v w : ℕ) → a ≤ 0x77 → length l ≡ 240
@@ -112,41 +94,41 @@ own-halves l a v w h z = (
   getD-set-same (set l (2 * a) v) (2 * a + 1) w 0 (omega (arith, length-set l (2 * a) v)),
 )
 
+own-item : {A : Type 0} (l m : List A) (k : ℕ) (v d : A) → k < length l → k < length m → getD (set l k v) k d ≡ getD (set m k v) k d
+own-item l m k v d h g = getD-set-same l k v d h ∙ sym (getD-set-same m k v d g)
+
 -- its own item is what it says, whatever was there
-put-own : (b : List ℕ) (k : ℕ) → Fits b k → (p q : Profile) → Sized p → Sized q → Same (itemOf k b) (put k b p) (put k b q)
-unfolding put
-put-own b k (register-fits h w) p q y z =
+with-own : (b : List ℕ) (k : ℕ) → Fits b k → (p q : Profile) → Sized p → Sized q → Same (itemOf k b) (withRecord k b p) (withRecord k b q)
+unfolding withRecord
+with-own b k (register-fits h w) p q y z =
     let x = own-halves (p .tables .registers) (getD b 0 0) _ _ h (y .registers) in
     let x′ = own-halves (q .tables .registers) (getD b 0 0) _ _ h (z .registers) in
     (x .0 ∙ sym (x′ .0), x .1 ∙ sym (x′ .1))
-put-own b k (sequence-fits h w) p q y z =
-    getD-set-same (p .tables .sequences) (numberAt b 0) _ _ (omega (arith, h, y .sequences))
-    ∙ sym (getD-set-same (q .tables .sequences) (numberAt b 0) _ _ (omega (arith, h, z .sequences)))
-put-own b k (field-fits h w r) p q y z = refl
-put-own b k (gate-fits h w) p q y z =
-    getD-set-same (p .tables .gates) (numberAt b 0) _ _ (omega (arith, h, y .gates))
-    ∙ sym (getD-set-same (q .tables .gates) (numberAt b 0) _ _ (omega (arith, h, z .gates)))
-put-own b k (subck-fits w) p q y z = refl
-put-own b k (shutter-fits h w) p q y z =
-    getD-set-same (p .tables .shutters) (numberAt b 0) _ _ (omega (arith, h, y .shutters))
-    ∙ sym (getD-set-same (q .tables .shutters) (numberAt b 0) _ _ (omega (arith, h, z .shutters)))
+with-own b k (sequence-fits h w) p q y z =
+    own-item (p .tables .sequences) (q .tables .sequences) (numberAt b 0) _ _ (omega (arith, y .sequences)) (omega (arith, z .sequences))
+with-own b k (field-fits h w r) p q y z = refl
+with-own b k (gate-fits h w) p q y z =
+    own-item (p .tables .gates) (q .tables .gates) (numberAt b 0) _ _ (omega (arith, y .gates)) (omega (arith, z .gates))
+with-own b k (subck-fits w) p q y z = refl
+with-own b k (shutter-fits h w) p q y z =
+    own-item (p .tables .shutters) (q .tables .shutters) (numberAt b 0) _ _ (omega (arith, y .shutters)) (omega (arith, z .shutters))
 
 -- ---- all records
 
-all-sized : (rs : List Record) (p : Profile) → Sized p → Sized (putAll rs p)
+all-sized : (rs : List Record) (p : Profile) → Sized p → Sized (withRecords rs p)
 all-sized [] p z = z
 all-sized (r ∷ rs) p z =
-    all-sized rs (put (r .kind) (r .body) p) (put-sized (r .kind) (r .body) p z (fits-test (r .body) (r .kind) (r .fits)))
+    all-sized rs (withRecord (r .kind) (r .body) p) (with-sized (r .kind) (r .body) p z (fits-test (r .body) (r .kind) (r .fits)))
 
-all-other : (rs : List Record) (i : Item) (p : Profile) → NoneFor i rs → Same i (putAll rs p) p
+all-other : (rs : List Record) (i : Item) (p : Profile) → NoneFor i rs → Same i (withRecords rs p) p
 all-other [] i p n = same-still i p
 all-other (r ∷ rs) i p n =
-    let q = put (r .kind) (r .body) p in
-    same-then i (putAll rs q) q p (all-other rs i q (n .1)) (put-other (r .body) (r .kind) (r .fits) i p (n .0))
+    let q = withRecord (r .kind) (r .body) p in
+    same-then i (withRecords rs q) q p (all-other rs i q (n .1)) (with-other (r .kind) (r .body) i p (n .0))
 
-all-then : (a b : List Record) (p : Profile) → putAll (a ++ b) p ≡ putAll b (putAll a p)
+all-then : (a b : List Record) (p : Profile) → withRecords (a ++ b) p ≡ withRecords b (withRecords a p)
 all-then [] b p = refl
-all-then (r ∷ a) b p = all-then a b (put (r .kind) (r .body) p)
+all-then (r ∷ a) b p = all-then a b (withRecord (r .kind) (r .body) p)
 
 -- the last record for an item decides
 pub last-decides :
@@ -156,9 +138,9 @@ last-decides before r after n =
     let i = itemOf (r .kind) (r .body) in
     let p = profileOf before in
     subst (λ (q : Profile). Same i q (profileOf (r ∷ []))) (sym (all-then before (r ∷ after) emptyProfile))
-    (same-then i (putAll (r ∷ after) p) (put (r .kind) (r .body) p) (profileOf (r ∷ []))
-    (all-other after i (put (r .kind) (r .body) p) n)
-    (put-own (r .body) (r .kind) (r .fits) p emptyProfile (all-sized before emptyProfile empty-sized) empty-sized))
+    (same-then i (withRecords (r ∷ after) p) (withRecord (r .kind) (r .body) p) (profileOf (r ∷ []))
+    (all-other after i (withRecord (r .kind) (r .body) p) n)
+    (with-own (r .body) (r .kind) (r .fits) p emptyProfile (all-sized before emptyProfile empty-sized) empty-sized))
 
 -- an item that no record is for is empty
 pub none-decides : (rs : List Record) (i : Item) → NoneFor i rs → Same i (profileOf rs) emptyProfile

@@ -58,11 +58,11 @@ or-right true b e = refl
 or-right false b e = e
 
 -- what `if !f(..)` tells of the test that f computes
-pub told-no : {a b : Bool} → a ≡ b → not a ≡ true → b ≡ false
-told-no e n = sym e ∙ not-true _ n
+pub tested-no : {a b : Bool} → a ≡ b → not a ≡ true → b ≡ false
+tested-no e n = sym e ∙ not-true _ n
 
-pub told-yes : {a b : Bool} → a ≡ b → not a ≡ false → b ≡ true
-told-yes e n = sym e ∙ not-false _ n
+pub tested-yes : {a b : Bool} → a ≡ b → not a ≡ false → b ≡ true
+tested-yes e n = sym e ∙ not-false _ n
 
 -- ---- all tests of a list
 
@@ -86,6 +86,11 @@ pub all-one : (b : Bool) → all (b ∷ []) ≡ b
 unfolding all
 all-one true = refl
 all-one false = refl
+
+pub all-cons : (b : Bool) (bs : List Bool) → all (b ∷ bs) ≡ b && all bs
+unfolding all
+all-cons true bs = refl
+all-cons false bs = refl
 
 pub all-append : (a b : List Bool) → all (a ++ b) ≡ all a && all b
 unfolding all

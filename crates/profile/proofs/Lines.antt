@@ -10,9 +10,10 @@ use native.Mathlib.Numerals.{add-one}
 use native.Mathlib.Omega.{arith}
 use borrow.Author.Tests.{lt-leb, ltb-true, ltb-false, leb-true, leb-false, eqb-true, eqb-false, lt-ltb, le-ltb, eq-eqb, ne-eqb}
 use lib.Dec.{ltb, leb, eqb}
-use Rattle.profile.proofs.Items.{items, sequence-present, sequence-absent, field-present, field-count, region-present}
-use Rattle.profile.proofs.Laws.{cond-case, by-cases, and-left, and-right, and-intro, Passed, passed, sum-ext, sum-same, sum-le, sum-more, sum-below, sum-but-one, sum-upto, sum-parts, chunks-parts, last-below, last-is, last-starts, last-next}
-use Rattle.profile.specs.Lists.{all, chunks, sum, lastStart}
+use Rattle.profile.proofs.Items.{items}
+use Rattle.profile.proofs.Carried.{sequence-in, region-in, head-in}
+use Rattle.profile.proofs.Laws.{cond-case, by-cases, and-left, and-right, and-intro, sum-ext, sum-same, sum-le, sum-more, sum-below, sum-but-one, sum-upto, sum-parts, chunks-parts, last-below, last-is, last-starts, last-next}
+use Rattle.profile.specs.Lists.{chunks, sum, lastStart}
 use Rattle.profile.specs.Geometry.{
   regionCount,
   regionAt,
@@ -31,7 +32,8 @@ use Rattle.profile.specs.Geometry.{
   pixelCount,
   hasPixel,
 }
-use Rattle.profile.specs.Ranges.{sequenceRange, fieldRange, regionRange, sequenceIn, inRange}
+use Rattle.profile.specs.Ranges.{sequenceIn, inRange}
+use Rattle.profile.specs.Obeys.{FieldRanged, RegionRanged}
 use Rattle.profile.specs.declared.Sequence.{Sequence}
 use Rattle.profile.specs.declared.Field.{Field}
 use Rattle.profile.specs.declared.Tables.{Tables}
@@ -263,57 +265,30 @@ module _ (f : Field) (o : Ordered f) where
 pub sequence-most : (s : Sequence) → sequenceIn s ≡ true → s .length ≤ 4095
 sequence-most s e =
     by-cases (s .present)
-    (λ q. leb-true (s .length) 4095 (passed (sequenceRange s) (sequence-present s e q) .1 .1 .0))
-    (λ q. omega (arith, ap (λ (s : Sequence). s .length) (sequence-absent s e q)))
+    (λ q. sequence-in s .0 e .0 q .longest)
+    (λ q. omega (arith, ap (λ (s : Sequence). s .length) (sequence-in s .0 e .1 q)))
 
 module _ (p : Profile) (e : inRange p ≡ true) (there : p .field .present ≡ true) where
-  field-range : all (fieldRange (p .field)) ≡ true
-  field-range = field-present (p .field) (items p e .field) there
-
-  pub field-tests : Passed (fieldRange (p .field))
-  field-tests = passed (fieldRange (p .field)) field-range
-
-  pub lines-some : 1 ≤ p .field .lines
-  lines-some = leb-true 1 (p .field .lines) (field-tests .1 .0)
-
-  pub lines-most : p .field .lines ≤ 4095
-  lines-most = leb-true (p .field .lines) 4095 (field-tests .1 .1 .0)
-
-  pub last-some : 1 ≤ p .field .last
-  last-some = leb-true 1 (p .field .last) (field-tests .1 .1 .1 .0)
-
-  pub last-most : p .field .last ≤ 4095
-  last-most = leb-true (p .field .last) 4095 (field-tests .1 .1 .1 .1 .0)
-
-  pub count-some : 1 ≤ p .field .count
-  count-some = field-count (p .field) field-range .0
-
-  pub count-most : p .field .count ≤ 7
-  count-most = field-count (p .field) field-range .1
+  pub ranged : FieldRanged (p .field)
+  ranged = head-in (p .field) .0 (items p e .field) .0 there
 
   pub region-count : regionCount (p .field) ≡ p .field .count
-  region-count = omega (arith, count-most)
+  region-count = omega (arith, ranged)
 
   pub regions-some : 1 ≤ regionCount (p .field)
-  regions-some = omega (arith, count-some)
+  regions-some = omega (arith, ranged)
 
-  pub region-tests : (i : ℕ) → i < regionCount (p .field) → Passed (regionRange (regionAt (p .field) i))
-  region-tests i h =
-      passed (regionRange (regionAt (p .field) i)) (region-present (p .field) i (items p e .regions i (omega arith)) (omega arith))
-
-  pub first-most : (i : ℕ) → i < regionCount (p .field) → firstLine (p .field) i ≤ 4094
-  first-most i h = leb-true (firstLine (p .field) i) 4094 (region-tests i h .0)
-
-  pub sequence-below : (i : ℕ) → i < regionCount (p .field) → regionAt (p .field) i .sequence ≤ 9
-  sequence-below i h = leb-true (regionAt (p .field) i .sequence) 9 (region-tests i h .1 .0)
+  pub region-ranged : (i : ℕ) → i < regionCount (p .field) → RegionRanged (regionAt (p .field) i)
+  region-ranged i h =
+      region-in (p .field) i .0 (items p e .regions i (omega arith)) .0 (lt-ltb i (p .field .count) (omega arith))
 
   pub sequence-length-most : (i : ℕ) → i < regionCount (p .field) → sequenceAt (p .tables) (p .field) i .length ≤ 4095
   sequence-length-most i h =
       let k : ℕ = regionAt (p .field) i .sequence in
-      sequence-most (sequenceOf (p .tables) k) (items p e .sequences k (omega (arith, sequence-below i h)))
+      sequence-most (sequenceOf (p .tables) k) (items p e .sequences k (omega (arith, region-ranged i h)))
 
   pub length-most : (i line : ℕ) → i < regionCount (p .field) → lengthIn (p .tables) (p .field) i line ≤ 4095
-  length-most i line h = length-bound (p .tables) (p .field) i 4095 line (sequence-length-most i h) last-most
+  length-most i line h = length-bound (p .tables) (p .field) i 4095 line (sequence-length-most i h) (ranged .longest)
 
   pub line-length-most : (line : ℕ) → lineLength (p .tables) (p .field) line ≤ 4095
   unfolding lineLength regionOf
@@ -322,10 +297,10 @@ module _ (p : Profile) (e : inRange p ≡ true) (there : p .field .present ≡ t
   pub region-pixels-most : (i line : ℕ) → i < regionCount (p .field) → line ≤ 4095
       → regionPixels (p .tables) (p .field) i line ≤ 16769025
   region-pixels-most i line h l =
-      le-trans (pixels-bound (p .tables) (p .field) i 4095 line (sequence-length-most i h) last-most) (omega arith)
+      le-trans (pixels-bound (p .tables) (p .field) i 4095 line (sequence-length-most i h) (ranged .longest)) (omega arith)
 
   pub pixels-most : pixelCount (p .tables) (p .field) ≤ 16769025
   unfolding pixelCount pixelsBefore
   pixels-most =
       le-trans (sum-le (lineLength (p .tables) (p .field)) 0 (p .field .lines) 4095 (λ line l u. line-length-most line))
-      (omega (arith, lines-most))
+      (omega (arith, ranged))

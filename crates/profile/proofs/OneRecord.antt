@@ -6,19 +6,19 @@ use mathlib.Core.List.{List}
 use Prim.Native.Nat.{ℕ, suc, _+_, _-_, _≤_, _<_}
 use native.Mathlib.Nat.{add-zero}
 use native.Mathlib.Omega.{arith}
-use borrow.Author.Tests.{lt-ltb, le-ltb, eqb-true, eqb-false}
+use borrow.Author.Tests.{not-true, not-false, lt-ltb, le-ltb, eqb-true, eqb-false}
 use lib.Dec.{ltb, eqb}
 use lib.ListN.{length, getD, take, drop, length-take, length-drop, drop-of-length-le}
 use lib.Seq.{getD-drop, drop-drop, drop-cons}
 use Rattle.profile.specs.Bytes.{numberAt}
-use Rattle.profile.specs.Values.{emptyProfile, refused, accepted, readAnswer}
-use Rattle.profile.specs.Script.{known, allowed, fits, put, bodyOf, Step, stop, next, step, records}
+use Rattle.profile.specs.Values.{refused, accepted, readAnswer}
+use Rattle.profile.specs.Script.{known, allowed, fits, withRecord, bodyOf, Stepped, stop, next, step, records}
 use Rattle.profile.specs.Reading.{bodyAnswer, unfound, foundFront, foundAt, stepAnswer}
 use Rattle.profile.specs.declared.Profile.{Profile}
 use Rattle.profile.specs.declared.records.BodyAnswer.{BodyAnswer}
 use Rattle.profile.specs.declared.records.Found.{Found}
 use Rattle.profile.specs.declared.records.RecordAnswer.{RecordAnswer}
-use Rattle.profile.proofs.Laws.{by-cases}
+use Rattle.profile.proofs.Laws.{by-cases, tested-no, tested-yes}
 use Rattle.profile.proofs.Takes.{Whole, known-found, step-next, records-next, records-stop, records-done}
 
 -- ---- which answer
@@ -31,11 +31,15 @@ number-rest s at k =
 
 -- each answer, in the order of the tests
 module _ (s : List ℕ) (at : ℕ) where
-  pub head-cut : length s < at + 4 → unfound 2 ≡ foundAt s at
+  pub no-header : {v : Found} → length s < 4 → v ≡ unfound 2 → v ≡ foundAt s at
   unfolding foundFront
-  head-cut h = rw (lt-ltb (length (drop at s)) 4 (omega (arith, length-drop at s)))
+  no-header h a = a ∙ rw (lt-ltb (length (drop at s)) 4 (omega (arith, length-drop at s)))
 
-  module _ (whole : at + 4 ≤ length s) (size kind : ℕ) (ez : size ≡ numberAt s at) (ek : kind ≡ numberAt s (at + 2)) where
+  pub header-cut : {v : Found} → length s - 4 < at → v ≡ unfound 2 → v ≡ foundAt s at
+  unfolding foundFront
+  header-cut h a = a ∙ rw (lt-ltb (length (drop at s)) 4 (omega (arith, length-drop at s)))
+
+  module _ (four : 4 ≤ length s) (whole : at ≤ length s - 4) (size kind : ℕ) (ez : size ≡ numberAt s at) (ek : kind ≡ numberAt s (at + 2)) where
     header : ltb (length (drop at s)) 4 ≡ false
     header = le-ltb (length (drop at s)) 4 (omega (arith, length-drop at s))
 
@@ -45,26 +49,28 @@ module _ (s : List ℕ) (at : ℕ) where
     kind-rest : numberAt (drop at s) 2 ≡ kind
     kind-rest = number-rest s at 2 ∙ sym ek
 
-    pub kind-unknown : known kind ≡ false → unfound 3 ≡ foundAt s at
+    pub kind-unknown : {v : Found} → known kind ≡ false → v ≡ unfound 3 → v ≡ foundAt s at
     unfolding foundFront
-    kind-unknown e = rw (header, kind-rest, e)
+    kind-unknown e a = a ∙ rw (header, kind-rest, e)
 
     module _ (e : known kind ≡ true) where
-      pub length-wrong : allowed kind size ≡ false → unfound 4 ≡ foundAt s at
+      pub length-wrong : {v : Found} → allowed kind size ≡ false → v ≡ unfound 4 → v ≡ foundAt s at
       unfolding foundFront
-      length-wrong f = rw (header, kind-rest, size-rest, e, f)
+      length-wrong f a = a ∙ rw (header, kind-rest, size-rest, e, f)
 
       module _ (f : allowed kind size ≡ true) where
-        pub body-cut : length s < at + (4 + size) → unfound 2 ≡ foundAt s at
+        pub body-cut : {v : Found} → length s - 4 - at < size → v ≡ unfound 2 → v ≡ foundAt s at
         unfolding foundFront
-        body-cut h =
-            rw (header, kind-rest, size-rest, e, f, lt-ltb (length (drop at s)) (4 + size) (omega (arith, length-drop at s)))
+        body-cut h a =
+            a ∙ rw (header, kind-rest, size-rest, e, f, lt-ltb (length (drop at s)) (4 + size) (omega (arith, length-drop at s)))
 
-        pub body-found : at + (4 + size) ≤ length s
+        pub body-found : size ≤ length s - 4 - at
             → record { number = 0; kind = kind; start = at + 4; end = at + (4 + size) } ≡ foundAt s at
         unfolding foundFront
         body-found h =
             rw (header, kind-rest, size-rest, e, f, le-ltb (length (drop at s)) (4 + size) (omega (arith, length-drop at s)))
+
+pub ruleset finding = (no-header, header-cut, kind-unknown, length-wrong, body-cut, tested-no, tested-yes)
 
 -- ---- one record put into a profile
 
@@ -105,10 +111,10 @@ module _ (s : List ℕ) (at : ℕ) (f : Found) (e : f ≡ foundAt s at) where
       Read =
           t
           ≡ bodyAnswer (fits (f .kind) (take (f .end - f .start) (drop (f .start) s)))
-          (put (f .kind) (take (f .end - f .start) (drop (f .start) s)) p) p
+          (withRecord (f .kind) (take (f .end - f .start) (drop (f .start) s)) p) p
 
       module _ (b : Read) where
-        body : t ≡ bodyAnswer (fits (numberAt rest 2) (bodyOf rest)) (put (numberAt rest 2) (bodyOf rest) p) p
+        body : t ≡ bodyAnswer (fits (numberAt rest 2) (bodyOf rest)) (withRecord (numberAt rest 2) (bodyOf rest) p) p
         body = rw (part-body z, whole-of z .kind) at b
 
         pub step-unfit : t .fits ≡ false → record { number = 5; next = at; profile = p } ≡ stepAnswer at p (step rest p)
@@ -121,6 +127,8 @@ module _ (s : List ℕ) (at : ℕ) (f : Found) (e : f ≡ foundAt s at) where
             let n : fits (numberAt rest 2) (bodyOf rest) ≡ true = rw body at y in
             rw (whole-of z .values p, body, n, whole-of z .end)
 
+pub ruleset stepping = (part-ordered, part-inside, part-allowed, step-refused, step-unfit, step-next-on, not-true, not-false)
+
 -- ---- all records, one after the other
 
 -- no step is refused with the number 0
@@ -132,7 +140,7 @@ stop-number r p n e z =
     (λ a.
     let v = k .0 (eqb-true (f .number) 0 a) .values p in
     by-cases (fits (numberAt r 2) (bodyOf r))
-    (λ b. let w = rw b at v in next-stop (numberAt r 0) n (put (numberAt r 2) (bodyOf r) p) (sym w ∙ e))
+    (λ b. let w = rw b at v in next-stop (numberAt r 0) n (withRecord (numberAt r 2) (bodyOf r) p) (sym w ∙ e))
     (λ b. let w = rw b at v in stop-zero 5 n (sym w ∙ e) z (omega arith)))
     (λ a. let m = eqb-false (f .number) 0 a in stop-zero (f .number) n (sym (k .1 m p) ∙ e) z m)
   where
@@ -149,36 +157,28 @@ module _ (s : List ℕ) (at : ℕ) (p : Profile) (t : RecordAnswer) (e : t ≡ s
     pub place : t .next ≡ at + (4 + len)
     pub took : step (drop at s) p ≡ next len (t .profile)
 
-  moved : t .number ≡ 0 → Moved
-  moved z = go (step (drop at s) p) refl e
+  -- by what the step is
+  told : (t .number ≡ 0 → Moved) × ((t .number ≡ 0 → ⊥) → step (drop at s) p ≡ stop (t .number))
+  told = go (step (drop at s) p) refl e
     where
-      go : (x : Step) → step (drop at s) p ≡ x → t ≡ stepAnswer at p x → Moved
-      go (stop n) q e = absurd (stop-number (drop at s) p n q (rw e at z))
-      go (next len r) q e = record { len = len; place = rw e; took = rw e q }
-
-  stopped : (t .number ≡ 0 → ⊥) → step (drop at s) p ≡ stop (t .number)
-  stopped n = go (step (drop at s) p) refl e
-    where
-      go : (x : Step) → step (drop at s) p ≡ x → t ≡ stepAnswer at p x → step (drop at s) p ≡ stop (t .number)
-      go (stop m) q e = rw e q
-      go (next len r) q e = absurd (n (rw e))
+      go : (x : Stepped) → step (drop at s) p ≡ x → t ≡ stepAnswer at p x
+          → (t .number ≡ 0 → Moved) × ((t .number ≡ 0 → ⊥) → step (drop at s) p ≡ stop (t .number))
+      go (stop n) q e = ((λ z. absurd (stop-number (drop at s) p n q (rw e at z))), λ h. rw e q)
+      go (next len r) q e = ((λ z. record { len = len; place = rw e; took = rw e q }), λ h. absurd (h (rw e)))
 
   pub further : t .number ≡ 0 → at < t .next
-  further z = let m = moved z in omega arith
+  further z = let m = told .0 z in omega arith
 
   pub read-on : t .number ≡ 0 → records 0 (t .next) (drop (t .next) s) (t .profile) ≡ records 0 at (drop at s) p
   read-on z =
-      let m = moved z in
+      let m = told .0 z in
       let n = records-next (drop at s) at (m .len) p (t .profile) (step-next (drop at s) p (m .len) (t .profile) (m .took)) (m .took) in
       rw (m .place, ← drop-drop (4 + m .len) at s) (sym n)
 
   pub read-stop : at < length s → (t .number ≡ 0 → ⊥) → readAnswer (refused (t .number) at) p ≡ records 0 at (drop at s) p
   read-stop h n =
       let c = drop-cons s at 0 h in
-      rw c (sym (records-stop (getD s at 0) (drop (suc at) s) at (t .number) p (rw c at (stopped n))))
-
-pub read-start : (s : List ℕ) (p : Profile) → p ≡ emptyProfile → records 0 0 (drop 0 s) p ≡ records 0 0 s emptyProfile
-read-start s p e = rw e
+      rw c (sym (records-stop (getD s at 0) (drop (suc at) s) at (t .number) p (rw c at (told .1 n))))
 
 pub read-end : (s : List ℕ) (at : ℕ) (p : Profile) → length s ≤ at
     → readAnswer accepted p ≡ records 0 at (drop at s) p

@@ -12,7 +12,7 @@ use lib.ListN.{length, getD, set, length-set}
 use lib.Seq.{set-out, getD-set-same, getD-set-other}
 use Rattle.profile.specs.Lists.{all}
 use Rattle.profile.specs.Bytes.{Bytes, numberAt, dataAt}
-use Rattle.profile.specs.Values.{Sized, emptyRegion, emptySequence, emptyGate, emptyShutter}
+use Rattle.profile.specs.Values.{Sized, emptyRegion, emptySequence, emptyGate, emptyShutter, setTables, setField}
 use Rattle.profile.specs.Ranges.{
   halfLimit,
   sequenceRange,
@@ -22,12 +22,14 @@ use Rattle.profile.specs.Ranges.{
   shutterRange,
   sequenceIn,
   regionIn,
-  fieldIn,
+  headIn,
   gateIn,
   subckIn,
   shutterIn,
 }
 use Rattle.profile.specs.Script.{
+  headLength,
+  regionLength,
   registerFits,
   withRegister,
   sequenceFrom,
@@ -48,7 +50,7 @@ use Rattle.profile.specs.Script.{
   withShutter,
   byKind,
   fits,
-  put,
+  withRecord,
 }
 use Rattle.profile.specs.declared.Region.{Region}
 use Rattle.profile.specs.declared.Sequence.{Sequence}
@@ -62,10 +64,10 @@ use Rattle.profile.proofs.FieldBody.{padded-front, padded-past, length-
 -- ---- one thing of six by the kind
 
 -- what holds of each of two choices by kind, side by side, holds of the chosen
-by-kind : {A B : Type 0} (Q : A → B → Type 0) (kind : ℕ) (a1 a2 a3 a4 a5 a6 : A) (b1 b2 b3 b4 b5 b6 : B)
+pub by-kind : {A B : Type 0} (Q : A → B → Type 0) (kind : ℕ) {a1 a2 a3 a4 a5 a6 : A} {b1 b2 b3 b4 b5 b6 : B}
     → Q a1 b1 → Q a2 b2 → Q a3 b3 → Q a4 b4 → Q a5 b5 → Q a6 b6
     → Q (byKind kind a1 a2 a3 a4 a5 a6) (byKind kind b1 b2 b3 b4 b5 b6)
-by-kind Q kind a1 a2 a3 a4 a5 a6 b1 b2 b3 b4 b5 b6 q1 q2 q3 q4 q5 q6 =
+by-kind Q kind {a1} {a2} {a3} {a4} {a5} {a6} {b1} {b2} {b3} {b4} {b5} {b6} q1 q2 q3 q4 q5 q6 =
     pick (eqb kind 1) (eqb kind 2) (eqb kind 3) (eqb kind 4) (eqb kind 5)
   where
     pick : (c1 c2 c3 c4 c5 : Bool)
@@ -97,7 +99,7 @@ stored P n l k v d new old i h =
 field-tests : (b : List ℕ) → fieldFits b ≡ true → all (fieldRange (fieldFrom b)) ≡ true
 unfolding fieldFits
 field-tests b e =
-    let t = eqb (10 + 6 * numberAt b 8) (length b) ∷ fieldRange (fieldFrom b) in
+    let t = eqb (headLength + regionLength * numberAt b 8) (length b) ∷ fieldRange (fieldFrom b) in
     all-passed (fieldRange (fieldFrom b)) (passed t (and-left (all t) _ e) .1)
 
 count-high : (b : List ℕ) → fieldFits b ≡ true → numberAt b 8 ≤ 7
@@ -108,15 +110,15 @@ length-regions : (b : List ℕ) → fieldFits b ≡ true → length (fieldFrom b
 unfolding fieldFrom
 length-regions b e = omega (arith, length-padded (numberAt b 8) (7 - numberAt b 8) (regionFrom b) emptyRegion, count-high b e)
 
-field-ranged : (b : List ℕ) → fieldFits b ≡ true → fieldIn (fieldFrom b) ≡ true
-unfolding fieldFrom fieldIn
+field-ranged : (b : List ℕ) → fieldFits b ≡ true → headIn (fieldFrom b) ≡ true
+unfolding fieldFrom headIn
 field-ranged b e = field-tests b e
 
 region-ranged : (b : List ℕ) → fieldFits b ≡ true → (i : ℕ) → i < 7 → regionIn (fieldFrom b) i ≡ true
 unfolding fieldFits fieldFrom
 region-ranged b e i h =
     let n = numberAt b 8 in
-    let c = and-right (all (eqb (10 + 6 * n) (length b) ∷ fieldRange (fieldFrom b))) _ e in
+    let c = and-right (all (eqb (headLength + regionLength * n) (length b) ∷ fieldRange (fieldFrom b))) _ e in
     by-cases (ltb i n)
     (λ u.
     let l = ltb-true i n u in
@@ -196,25 +198,25 @@ shutter-ranged b e = all-passed (shutterRange (shutterFrom b)) (passed _ e .1)
 -- ---- a record put
 
 -- what holds of the profile with each kind's item, where the record fits, holds of the profile with the record
-put-case : (Q : Profile → Type 0) (kind : ℕ) (b : List ℕ) (p : Profile)
-    → (registerFits b ≡ true → Q (record { tables = withRegister b (p .tables); field = p .field }))
-    → (sequenceFits b ≡ true → Q (record { tables = withSequence b (p .tables); field = p .field }))
-    → (fieldFits b ≡ true → Q (record { tables = p .tables; field = fieldFrom b }))
-    → (gateFits b ≡ true → Q (record { tables = withGate b (p .tables); field = p .field }))
-    → (subckFits b ≡ true → Q (record { tables = withSubck b (p .tables); field = p .field }))
-    → (shutterFits b ≡ true → Q (record { tables = withShutter b (p .tables); field = p .field }))
-    → fits kind b ≡ true → Q (put kind b p)
-unfolding fits put
-put-case Q kind b p = by-kind (λ (f : Bool) (q : Profile). f ≡ true → Q q) kind _ _ _ _ _ _ _ _ _ _ _ _
+with-case : (Q : Profile → Type 0) (kind : ℕ) (b : List ℕ) (p : Profile)
+    → (registerFits b ≡ true → Q (setTables (withRegister b (p .tables)) p))
+    → (sequenceFits b ≡ true → Q (setTables (withSequence b (p .tables)) p))
+    → (fieldFits b ≡ true → Q (setField (fieldFrom b) p))
+    → (gateFits b ≡ true → Q (setTables (withGate b (p .tables)) p))
+    → (subckFits b ≡ true → Q (setTables (withSubck b (p .tables)) p))
+    → (shutterFits b ≡ true → Q (setTables (withShutter b (p .tables)) p))
+    → fits kind b ≡ true → Q (withRecord kind b p)
+unfolding fits withRecord
+with-case Q kind b p = by-kind (λ (f : Bool) (q : Profile). f ≡ true → Q q) kind
 
 -- by its parts, one a table
 sized : {p : Profile} → length (p .tables .registers) ≡ 240 → length (p .tables .sequences) ≡ 10 → length (p .tables .gates) ≡ 5
     → length (p .tables .shutters) ≡ 2 → length (p .field .regions) ≡ 7 → Sized p
 sized h s g u r = record { registers = h; sequences = s; gates = g; shutters = u; regions = r }
 
-pub put-sized : (kind : ℕ) (b : List ℕ) (p : Profile) → Sized p → fits kind b ≡ true → Sized (put kind b p)
-put-sized kind b p z =
-    put-case Sized kind b p
+pub with-sized : (kind : ℕ) (b : List ℕ) (p : Profile) → Sized p → fits kind b ≡ true → Sized (withRecord kind b p)
+with-sized kind b p z =
+    with-case Sized kind b p
     (λ f. sized (simp length-set (z .registers)) (z .sequences) (z .gates) (z .shutters) (z .regions))
     (λ f. sized (z .registers) (simp length-set (z .sequences)) (z .gates) (z .shutters) (z .regions))
     (λ f. sized (z .registers) (z .sequences) (z .gates) (z .shutters) (length-regions b f))
@@ -226,14 +228,14 @@ put-sized kind b p z =
 ranged : (p : Profile) → ((i : ℕ) → i < 240 → leb (getD (p .tables .registers) i 0) (halfLimit i) ≡ true)
     → ((k : ℕ) → k < 10 → sequenceIn (getD (p .tables .sequences) k emptySequence) ≡ true)
     → ((k : ℕ) → k < 5 → gateIn (getD (p .tables .gates) k emptyGate) ≡ true) → subckIn (p .tables .subck) ≡ true
-    → ((k : ℕ) → k < 2 → shutterIn (getD (p .tables .shutters) k emptyShutter) ≡ true) → fieldIn (p .field) ≡ true
+    → ((k : ℕ) → k < 2 → shutterIn (getD (p .tables .shutters) k emptyShutter) ≡ true) → headIn (p .field) ≡ true
     → ((i : ℕ) → i < 7 → regionIn (p .field) i ≡ true) → Items p
 ranged p h s g c u f r = record { halves = h; sequences = s; gates = g; subck = c; shutters = u; field = f; regions = r }
 
-pub put-items : (kind : ℕ) (b : List ℕ) (p : Profile) → Bytes b → Items p → fits kind b ≡ true → Items (put kind b p)
-put-items kind b p bytes r =
+pub with-items : (kind : ℕ) (b : List ℕ) (p : Profile) → Bytes b → Items p → fits kind b ≡ true → Items (withRecord kind b p)
+with-items kind b p bytes r =
     let t = p .tables in
-    put-case Items kind b p
+    with-case Items kind b p
     (λ f.
     ranged _ (halves-ranged b bytes f (t .registers) (r .halves)) (r .sequences) (r .gates) (r .subck) (r .shutters) (r .field) (r .regions))
     (λ f.

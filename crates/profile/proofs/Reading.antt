@@ -21,9 +21,9 @@ use Rattle.profile.specs.Values.{
   accepts,
   readAnswer,
 }
-use Rattle.profile.specs.Ranges.{sequenceIn, regionIn, fieldIn, gateIn, subckIn, shutterIn, inRange}
+use Rattle.profile.specs.Ranges.{sequenceIn, regionIn, headIn, gateIn, subckIn, shutterIn, inRange}
 use Rattle.profile.specs.Rules.{judge, checkProfile}
-use Rattle.profile.specs.Script.{bodyOf, Step, stop, next, step, records, judged, readScript}
+use Rattle.profile.specs.Script.{mostBytes, bodyOf, Stepped, stop, next, step, afterFirst, records, judged, readScript}
 use Rattle.profile.specs.declared.Profile.{Profile}
 use Rattle.profile.specs.declared.Verdict.{Verdict}
 use Rattle.profile.specs.declared.ReadAnswer.{ReadAnswer}
@@ -32,19 +32,19 @@ use Rattle.profile.proofs.Checked.{check-judge, judge-number}
 use Rattle.profile.proofs.Takes.{step-taken}
 use Rattle.profile.proofs.Items.{items, items-in}
 use Rattle.profile.proofs.ByteRange.{bytes-tail, bytes-part}
-use Rattle.profile.proofs.Puts.{put-sized, put-items}
+use Rattle.profile.proofs.Puts.{with-sized, with-items}
 
 -- ---- one record taken
 
 pub step-sized : (s : List ℕ) (p : Profile) (len : ℕ) (q : Profile) → Sized p → step s p ≡ next len q → Sized q
 step-sized s p len q z e =
     let t = step-taken s p len q e in
-    rw (t .gives) at (put-sized (numberAt s 2) (bodyOf s) p z (t .values))
+    rw (t .gives) at (with-sized (numberAt s 2) (bodyOf s) p z (t .values))
 
 pub step-in : (s : List ℕ) (p : Profile) (len : ℕ) (q : Profile) → Bytes s → inRange p ≡ true → step s p ≡ next len q → inRange q ≡ true
 step-in s p len q b r e =
     let t = step-taken s p len q e in
-    let w = put-items (numberAt s 2) (bodyOf s) p (bytes-part s (numberAt s 0) 4 b) (items p r) (t .values) in
+    let w = with-items (numberAt s 2) (bodyOf s) p (bytes-part s (numberAt s 0) 4 b) (items p r) (t .values) in
     items-in q (rw (t .gives) at w)
 
 -- ---- all records
@@ -57,10 +57,10 @@ module _ (B : List ℕ → Type 0) (P : Profile → Type 0) (Q : ReadAnswer → 
   -- the record at the front, by what its step is; on is the rest
   one : (x : ℕ) (xs : List ℕ) (at : ℕ) (p : Profile) → B (x ∷ xs) → P p
       → ((skip at : ℕ) (q : Profile) → P q → Q (records skip at xs q))
-      → (r : Step) → step (x ∷ xs) p ≡ r → Q (records 0 at (x ∷ xs) p)
+      → (r : Stepped) → step (x ∷ xs) p ≡ r → Q (records 0 at (x ∷ xs) p)
   unfolding records
   one x xs at p b h on (stop n) e = rw (e, records) (ends (refused n at) p h)
-  one x xs at p b h on (next len q) e = rw (e, records) (on (3 + len) (at + 1) q (keeps (x ∷ xs) p len q b h e))
+  one x xs at p b h on (next len q) e = rw (e, records) (on (afterFirst len) (at + 1) q (keeps (x ∷ xs) p len q b h e))
 
   records-all : (s : List ℕ) (skip at : ℕ) (p : Profile) → B s → P p → Q (records skip at s p)
   unfolding records
@@ -76,7 +76,7 @@ unfolding emptyTables emptyField
 empty-sized = record { registers = refl; sequences = refl; gates = refl; shutters = refl; regions = refl }
 
 pub empty-in : inRange emptyProfile ≡ true
-unfolding emptyTables emptyField inRange all chunks sequenceIn regionIn fieldIn gateIn subckIn shutterIn
+unfolding emptyTables emptyField inRange all chunks sequenceIn regionIn headIn gateIn subckIn shutterIn
 empty-in = refl
 
 -- an answer's profile is the one at hand or the empty one
@@ -130,7 +130,7 @@ module _ (s : List ℕ) where
       → (taken .verdict .number ≡ 0 → Q (readAnswer (judge (taken .profile)) (taken .profile))) → Q (readScript s)
   unfolding readScript
   read-case Q f g h =
-      cond-case Q (leb (length s) 16384) (judged taken) (readAnswer (refused 1 0) emptyProfile) (λ e. judged-case Q taken h g) (λ e. f)
+      cond-case Q (leb (length s) mostBytes) (judged taken) (readAnswer (refused 1 0) emptyProfile) (λ e. judged-case Q taken h g) (λ e. f)
 
   pub read-sized : Sized (readScript s .profile)
   read-sized =

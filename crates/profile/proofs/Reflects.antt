@@ -1,33 +1,31 @@
 -- Each test of the rules is true exactly where document 01's sentence holds: a test is made of comparisons by "and", "or" and "where", and each
 -- of these is reflected once.
 -- Assumes nothing.
-use Prim.Native.Nat.{ℕ, zero, suc, _+_, _*_, _/_, _%_, _≤_, _<_, max}
-use native.Mathlib.Nat.{add-zero}
+use Prim.Native.Nat.{ℕ, zero, suc, _+_, _-_, _*_, _/_, _%_, _^_, _≤_, _<_, max}
 use native.Mathlib.Omega.{arith}
-use mathlib.Core.Path.{_≡_, refl, sym, ap, _∙_}
+use mathlib.Core.Path.{_≡_, refl, sym}
 use mathlib.Core.Logic.{_↔_, _⊎_, inl, inr}
 use mathlib.Core.Bool.{Bool, true, false, cond, not, _&&_, _||_, false≢true}
-use mathlib.Core.List.{List, [], _∷_}
+use mathlib.Core.List.{List, [], _∷_, map}
 use lib.ListN.{getD}
 use lib.Dec.{ltb, leb, eqb}
 use borrow.Author.Tests.{ltb-true, leb-true, leb-false, eqb-true, eqb-false, lt-ltb, le-leb, eq-eqb, ne-eqb, not-true}
-use Rattle.profile.specs.Lists.{all, chunks}
-use Rattle.profile.specs.Patterns.{used, follows, toggleFault, highestUsed}
+use Rattle.profile.specs.Lists.{Each, all, chunks}
+use Rattle.profile.specs.Patterns.{rowOf, isPlain, not4095, used, follows, toggleFault, usedOr0, highestIn, highestUsed}
 use Rattle.profile.specs.Geometry.{regionAt, regionOf, sequenceAt, patternAt, lineLength, hasPixel, repetitions}
 use Rattle.profile.specs.Rules.{
-  togglesRight,
+  rowRight,
   pairsRight,
   maskRight,
   countsRight,
   endsRight,
-  isPlain,
   secondRight,
   gateRight,
   subckRight,
   comesBefore,
   shutterRight,
 }
-use Rattle.profile.specs.Obeys.{Used, toggleOf, Rises, Masks, Highest, Counts, Ends, Seconds, Exists, Before, Shuts}
+use Rattle.profile.specs.Obeys.{Not4095, Used, Rises, Masks, Highest, Counts, Ends, Seconds, Exists, Before, Pulses, Suppresses, Shuts}
 use Rattle.profile.specs.declared.Mode.{Mode}
 use Rattle.profile.specs.declared.Mode.the-variants.{Plain, Sweep, Multiplier}
 use Rattle.profile.specs.declared.Sequence.{Sequence}
@@ -37,7 +35,7 @@ use Rattle.profile.specs.declared.Subck.{Subck}
 use Rattle.profile.specs.declared.Shutter.{Shutter}
 use Rattle.profile.specs.declared.Tables.{Tables}
 use Rattle.profile.specs.declared.Field.{Field}
-use Rattle.profile.proofs.Laws.{by-cases, and-left, and-right, and-intro, where-true, where-intro, or-cases, or-left, or-right, all-one, ones-at, ones-all}
+use Rattle.profile.proofs.Laws.{by-cases, and-left, and-right, and-intro, where-true, where-intro, or-cases, or-left, or-right, all-cons, ones-at, ones-all}
 
 -- ---- comparisons and their joining
 
@@ -83,23 +81,25 @@ module _ {a b : Bool} {A B : Type 0} (f : Says a A) (g : Says b B) where
 pub says-each : (n : ℕ) (b : ℕ → Bool) (A : ℕ → Type 0) → ((k : ℕ) → Says (b k) (A k)) → Says (all (chunks n (λ k. b k ∷ []))) ((k : ℕ) → k < n → A k)
 says-each n b A f = ((λ e k h. f k .0 (ones-at n b e k h)), λ w. ones-all n b (λ k h. f k .1 (w k h)))
 
--- one test in a list
-pub says-one : {b : Bool} {A : Type 0} → Says b A → Says (all (b ∷ [])) A
-says-one {b} f = ((λ e. f .0 (sym (all-one b) ∙ e)), λ w. all-one b ∙ f .1 w)
+-- a test before those of a list
+pub says-cons : {b : Bool} {A B : Type 0} (bs : List Bool) → Says b A → Says (all bs) B → Says (all (b ∷ bs)) (A × B)
+says-cons bs f g = rw all-cons (says-and f g)
+
+-- a test of each element
+pub says-map : {X : Type 0} (b : X → Bool) (A : X → Type 0) → ((x : X) → Says (b x) (A x)) → (xs : List X) → Says (all (map b xs)) (Each A xs)
+unfolding all
+says-map b A f [] = ((λ e. tt), λ w. refl)
+says-map b A f (x ∷ xs) = says-cons (map b xs) (f x) (says-map b A f xs)
 
 -- ---- 10: toggles
 
-says-used : (m : Mode) (length x : ℕ) → Says (used m length x) (Used m length x)
+says-not4095 : (x : ℕ) → Says (not4095 x) (Not4095 x)
+says-not4095 x = says-ne x 4095
+
+pub says-used : (m : Mode) (length x : ℕ) → Says (used m length x) (Used m length x)
 says-used Plain length x = says-lt x length
 says-used Sweep length x = says-lt x length
-says-used Multiplier length x = says-ne x 4095
-
-module _ (m : Mode) (length : ℕ) where
-  abbrev Follows : ℕ → ℕ → Type 0
-  Follows x y = Used m length y → Used m length x × (x < y)
-
-  says-follows : (x y : ℕ) → Says (follows m length x y) (Follows x y)
-  says-follows x y = says-where (says-used m length y) (says-and (says-used m length x) (says-lt x y))
+says-used Multiplier length x = says-not4095 x
 
 -- no fault is found exactly where both pairs of neighbours are in order
 no-fault : (b c : Bool) → eqb (cond b (cond c 0 3) 2) 0 ≡ true → (b ≡ true) × (c ≡ true)
@@ -107,14 +107,17 @@ no-fault true true e = (refl, refl)
 no-fault true false e = absurd (false≢true e)
 no-fault false c e = absurd (false≢true e)
 
-module _ (m : Mode) (a : Pattern) (k : ℕ) where
-  first-is : toggleOf a k 0 ≡ getD (a .toggles) (3 * k) 0
-  first-is = ap (λ (i : ℕ). getD (a .toggles) i 0) (add-zero (3 * k))
+module _ (uses : ℕ → Bool) (Uses : ℕ → Type 0) (says : (x : ℕ) → Says (uses x) (Uses x)) (row : List ℕ) where
+  abbrev at : ℕ → ℕ
+  at j = getD row j 0
 
-  abbrev next : ℕ → Type 0
-  next j = Follows m (a .length) (toggleOf a k j) (toggleOf a k (suc j))
+  abbrev Next : ℕ → Type 0
+  Next j = Uses (at (suc j)) → Uses (at j) × (at j < at (suc j))
 
-  rises : next 0 → next 1 → Rises m a k
+  next : (j : ℕ) → Says (follows uses (at j) (at (suc j))) (Next j)
+  next j = says-where (says (at (suc j))) (says-and (says (at j)) (says-lt (at j) (at (suc j))))
+
+  rises : Next 0 → Next 1 → Rises Uses row
   rises f g i zero h l = absurd (omega arith)
   rises f g zero (suc zero) h l = f
   rises f g (suc i) (suc zero) h l = absurd (omega arith)
@@ -123,29 +126,20 @@ module _ (m : Mode) (a : Pattern) (k : ℕ) where
   rises f g (suc (suc i)) (suc (suc zero)) h l = absurd (omega arith)
   rises f g i (suc (suc (suc j))) h l = absurd (omega arith)
 
-  pub says-toggles : Says (togglesRight m a k) (Rises m a k)
-  unfolding togglesRight toggleFault
-  says-toggles = (to, from)
-    where
-      one : Says (follows m (a .length) (toggleOf a k 0) (toggleOf a k 1)) (next 0)
-      one = says-follows m (a .length) (toggleOf a k 0) (toggleOf a k 1)
-
-      two : Says (follows m (a .length) (toggleOf a k 1) (toggleOf a k 2)) (next 1)
-      two = says-follows m (a .length) (toggleOf a k 1) (toggleOf a k 2)
-
-      to : togglesRight m a k ≡ true → Rises m a k
-      to e = let w = no-fault _ _ (rw (← first-is) at e) in rises (one .0 (w .0)) (two .0 (w .1))
-
-      from : Rises m a k → togglesRight m a k ≡ true
-      from r = rw (← first-is, one .1 (r 0 1 (omega arith) (omega arith)), two .1 (r 1 2 (omega arith) (omega arith)))
+  pub says-row : Says (rowRight uses row) (Rises Uses row)
+  unfolding rowRight toggleFault
+  says-row = (
+    (λ e. let w = no-fault _ _ e in rises (next 0 .0 (w .0)) (next 1 .0 (w .1))),
+    λ r. rw (next 0 .1 (r 0 1 (omega arith) (omega arith)), next 1 .1 (r 1 2 (omega arith) (omega arith))),
+  )
 
 -- ---- 11: masks
 
 pub says-mask : (m : Mode) (mask : ℕ) (a : Pattern) → Says (maskRight m mask a) (Masks m mask a)
 unfolding maskRight pairsRight
 says-mask Plain mask a =
-    let on1 = says-eq (mask / 1 % 2) 1 in
-    let on2 = says-eq (mask / 2 % 2) 1 in
+    let on1 = says-eq (mask / 2 ^ (1 - 1) % 2) 1 in
+    let on2 = says-eq (mask / 2 ^ (2 - 1) % 2) 1 in
     let w = says-and (says-and (says-where on1 (says-lt (a .freeze1) (a .resume1))) (says-where on2 (says-lt (a .freeze2) (a .resume2))))
     (says-where (says-and on1 on2) (says-le (a .resume1) (a .freeze2))) in (
       (λ e. let q = w .0 e in (q .0 .0, q .0 .1, λ x y. q .1 (x, y))),
@@ -156,63 +150,73 @@ says-mask Multiplier mask a = says-eq mask 0
 
 -- ---- 12: repetition counts
 
-module _ (l : List ℕ) where
-  abbrev UsedAt : ℕ → Type 0
-  UsedAt n = getD l n 0 ≡ 4095 → ⊥
+-- a toggle is no higher than what it counts as where it is used, and counts as itself or as 0
+or0-above : (x : ℕ) → Not4095 x → x ≤ usedOr0 x
+or0-above x u = rw (ne-eqb x 4095 u) (omega arith)
 
-  highest-above : (n i : ℕ) → i < n → UsedAt i → getD l i 0 ≤ highestUsed l n
+or0-is : (x : ℕ) → (usedOr0 x ≡ 0) ⊎ (Not4095 x × (usedOr0 x ≡ x))
+or0-is x = by-cases (eqb x 4095) (λ q. inl (rw q)) (λ q. inr (eqb-false x 4095 q, rw q))
+
+-- of two numbers of which each is 0 or found, the greater is
+greater-is : (P : ℕ → Type 0) (a b : ℕ) → (a ≡ 0) ⊎ P a → (b ≡ 0) ⊎ P b → (max a b ≡ 0) ⊎ P (max a b)
+greater-is P a b f g =
+    by-cases (leb b a)
+    (λ e. let l = leb-true b a e in let m : max a b ≡ a = omega arith in rw m f)
+    (λ e. let l = leb-false b a e in let m : max a b ≡ b = omega arith in rw m g)
+
+module _ (row : ℕ → List ℕ) where
+  abbrev toggle : ℕ → ℕ → ℕ
+  toggle k j = getD (row k) j 0
+
+  in-row : (k j : ℕ) → j < 3 → Not4095 (toggle k j) → toggle k j ≤ highestIn (row k)
+  in-row k zero l u = omega (arith, or0-above (toggle k 0) u)
+  in-row k (suc zero) l u = omega (arith, or0-above (toggle k 1) u)
+  in-row k (suc (suc zero)) l u = omega (arith, or0-above (toggle k 2) u)
+  in-row k (suc (suc (suc j))) l u = absurd (omega arith)
+
+  highest-above : (n k j : ℕ) → k < n → j < 3 → Not4095 (toggle k j) → toggle k j ≤ highestUsed row n
   unfolding highestUsed
-  highest-above zero i h u = absurd (omega arith)
-  highest-above (suc n) i h u =
-      by-cases (eqb i n)
-      (λ q. let e = eqb-true i n q in rw (← e, ne-eqb (getD l i 0) 4095 u) (omega arith))
-      (λ q. omega (arith, highest-above n i (omega (arith, eqb-false i n q)) u))
+  highest-above zero k j h l u = absurd (omega arith)
+  highest-above (suc n) k j h l u =
+      by-cases (eqb k n)
+      (λ q. let e = eqb-true k n q in rw (← e) (omega (arith, in-row k j l u)))
+      (λ q. omega (arith, highest-above n k j (omega (arith, eqb-false k n q)) l u))
 
   abbrev Found : ℕ → ℕ → Type 0
-  Found n h = (h ≡ 0) ⊎ ((i : ℕ) × (i < n) × (h ≡ 4095 → ⊥) × (getD l i 0 ≡ h))
+  Found n h = (k : ℕ) × (j : ℕ) × (k < n) × (j < 3) × Not4095 h × (toggle k j ≡ h)
 
-  later : (n h : ℕ) → Found n h → Found (suc n) h
-  later n h (inl z) = inl z
-  later n h (inr w) = inr (w .0, omega arith, w .2, w .3)
-
-  -- the greater of what was found and toggle n
-  found-more : (n h : ℕ) → Found n h → Found (suc n) (max h (cond (used Multiplier 0 (getD l n 0)) (getD l n 0) 0))
-  found-more n h f = by-cases (leb here h) keep take
+  row-found : (n j : ℕ) → j < 3 → (usedOr0 (toggle n j) ≡ 0) ⊎ Found (suc n) (usedOr0 (toggle n j))
+  row-found n j l = go (or0-is (toggle n j))
     where
-      here : ℕ
-      here = cond (used Multiplier 0 (getD l n 0)) (getD l n 0) 0
+      go : (usedOr0 (toggle n j) ≡ 0) ⊎ (Not4095 (toggle n j) × (usedOr0 (toggle n j) ≡ toggle n j))
+          → (usedOr0 (toggle n j) ≡ 0) ⊎ Found (suc n) (usedOr0 (toggle n j))
+      go (inl z) = inl z
+      go (inr w) = inr (n, j, omega arith, l, rw (w .1) (w .0), sym (w .1))
 
-      keep : leb here h ≡ true → Found (suc n) (max h here)
-      keep e =
-          let w = leb-true here h e in
-          let m : max h here ≡ h = omega arith in
-          rw m (later n h f)
+  later : (n h : ℕ) → (h ≡ 0) ⊎ Found n h → (h ≡ 0) ⊎ Found (suc n) h
+  later n h (inl z) = inl z
+  later n h (inr w) = inr (w .0, w .1, omega arith, w .3, w .4, w .5)
 
-      take : leb here h ≡ false → Found (suc n) (max h here)
-      take e =
-          let w = leb-false here h e in
-          let m : max h here ≡ here = omega arith in
-          rw m
-          (by-cases (eqb (getD l n 0) 4095)
-          (λ q. inl (rw q))
-          (λ q. rw q (inr (n, omega arith, eqb-false (getD l n 0) 4095 q, refl))))
-
-  highest-found : (n : ℕ) → Found n (highestUsed l n)
+  highest-found : (n : ℕ) → (highestUsed row n ≡ 0) ⊎ Found n (highestUsed row n)
   unfolding highestUsed
   highest-found zero = inl refl
-  highest-found (suc n) = found-more n (highestUsed l n) (highest-found n)
+  highest-found (suc n) =
+      let G = Found (suc n) in
+      let at = row-found n in
+      greater-is G _ _ (later n _ (highest-found n))
+      (greater-is G _ _ (greater-is G _ _ (at 0 (omega arith)) (at 1 (omega arith))) (at 2 (omega arith)))
 
-pub highest-is : (a : Pattern) → Highest a (highestUsed (a .toggles) 18)
-highest-is a = record { above = highest-above (a .toggles) 18; is = highest-found (a .toggles) 18 }
+pub highest-is : (a : Pattern) → Highest a (highestUsed (rowOf (a .toggles)) 6)
+highest-is a = record { above = highest-above (rowOf (a .toggles)) 6; is = highest-found (rowOf (a .toggles)) 6 }
 
 no-higher : (a : Pattern) (g h : ℕ) → Highest a g → Highest a h → g ≤ h
 no-higher a g h u v = go (u .is)
   where
-    go : (g ≡ 0) ⊎ ((n : ℕ) × (n < 18) × Used Multiplier (a .length) g × (getD (a .toggles) n 0 ≡ g)) → g ≤ h
+    go : (g ≡ 0) ⊎ ((k : ℕ) × (j : ℕ) × (k < 6) × (j < 3) × Not4095 g × (getD (rowOf (a .toggles) k) j 0 ≡ g)) → g ≤ h
     go (inl z) = omega arith
-    go (inr w) = rw (← w .3) (v .above (w .0) (w .1) (rw (w .3) (w .2)))
+    go (inr w) = rw (← w .5) (v .above (w .0) (w .1) (w .2) (w .3) (rw (w .5) (w .4)))
 
-says-highest : (a : Pattern) (h : ℕ) → Says (eqb h (highestUsed (a .toggles) 18)) (Highest a h)
+says-highest : (a : Pattern) (h : ℕ) → Says (eqb h (highestUsed (rowOf (a .toggles)) 6)) (Highest a h)
 says-highest a h = (
   (λ e. rw (eqb-true h _ e) (highest-is a)),
   λ w. eq-eqb h _ (omega (arith, no-higher a h _ w (highest-is a), no-higher a _ h (highest-is a) w)),
@@ -234,7 +238,7 @@ says-ends Multiplier s a size = says-le (s .start + s .odd * a .length) size
 
 -- ---- 14 to 17
 
-says-plain : (m : Mode) → Says (isPlain m) (m ≡ Plain)
+pub says-plain : (m : Mode) → Says (isPlain m) (m ≡ Plain)
 says-plain Plain = ((λ e. refl), λ e. refl)
 says-plain Sweep = ((λ e. absurd (false≢true e)), λ e. let z : _≡_ {A = ℕ} 0 1 = cc in absurd (omega arith))
 says-plain Multiplier = ((λ e. absurd (false≢true e)), λ e. let z : _≡_ {A = ℕ} 0 1 = cc in absurd (omega arith))
@@ -256,7 +260,8 @@ says-second t f a line =
     (says-and
     (says-and
     (says-and (says-plain (regionAt f i .mode)) (says-ne (a .length) 0))
-    (says-each 6 (λ k. togglesRight Multiplier a k) (λ k. Rises Multiplier a k) (λ k. says-toggles Multiplier a k)))
+    (says-each 6 (λ k. rowRight not4095 (rowOf (a .toggles) k)) (λ k. Rises Not4095 (rowOf (a .toggles) k))
+    (λ k. says-row not4095 Not4095 says-not4095 (rowOf (a .toggles) k))))
     (says-lt (a .length) (lineLength t f line)))
     (says-first-ends r (s .start + r * patternAt t f i .length) (a .length)) in (
       (λ e.
@@ -265,14 +270,13 @@ says-second t f a line =
       λ q. w .1 ((((q .plain, q .length), q .toggles), q .shorter), q .first-ends),
     )
 
-pub says-gate : (g : Gate) (length : ℕ)
-    → Says (gateRight g length) (g .present ≡ true → g .on ≡ 1 → (g .toggle1 < g .toggle2) × (g .toggle2 < length))
+pub says-gate : (g : Gate) (length : ℕ) → Says (gateRight g length) (Pulses g length)
 unfolding gateRight
 says-gate g length =
     let w = says-where (says-and (says-true (g .present)) (says-eq (g .on) 1)) (says-and (says-lt (g .toggle1) (g .toggle2)) (says-lt (g .toggle2) length)) in
     ((λ e x y. w .0 e (x, y)), λ q. w .1 (λ z. q (z .0) (z .1)))
 
-pub says-subck : (s : Subck) → Says (subckRight s) (s .present ≡ true → (s .toggle1 < s .toggle2) × (1 ≤ s .suppressed))
+pub says-subck : (s : Subck) → Says (subckRight s) (Suppresses s)
 unfolding subckRight
 says-subck s = says-where (says-true (s .present)) (says-and (says-lt (s .toggle1) (s .toggle2)) (says-le 1 (s .suppressed)))
 

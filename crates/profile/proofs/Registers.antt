@@ -1,23 +1,25 @@
--- Patterns and toggles as the code reads them: a pattern past the tenth is all zeros, and the highest toggle is found one by one.
+-- Patterns and toggles as the code reads them: a pattern past the tenth is all zeros, and the highest toggle is found output by output.
 -- Assumes nothing.
 use Prim.Native.Nat.{ℕ, _+_, _*_, _≤_, max}
 use native.Mathlib.Numerals.{add-one}
 use native.Mathlib.Omega.{arith}
 use mathlib.Core.Path.{_≡_, refl}
 use mathlib.Core.List.{List, [], _∷_}
-use mathlib.Core.Bool.{cond}
 use lib.ListN.{length, getD, replicate, List·getD-eq-default}
-use Rattle.profile.specs.Patterns.{halfOf, patternOf, used, highestUsed}
-use Rattle.profile.specs.declared.Mode.the-variants.{Multiplier}
+use Rattle.profile.specs.Patterns.{halfOf, patternOf, rowOf, rowsOf, highestIn, highestUsed}
 
-pub highest-none : (l : List ℕ) → highestUsed l 0 ≡ 0
+pub highest-none : (row : ℕ → List ℕ) → highestUsed row 0 ≡ 0
 unfolding highestUsed
-highest-none l = refl
+highest-none row = refl
 
-pub highest-more : (l : List ℕ) (n : ℕ)
-    → highestUsed l (n + 1) ≡ max (highestUsed l n) (cond (used Multiplier 0 (getD l n 0)) (getD l n 0) 0)
+pub highest-more : (row : ℕ → List ℕ) (n : ℕ) → highestUsed row (n + 1) ≡ max (highestUsed row n) (highestIn (row n))
 unfolding highestUsed
-highest-more l n = rw add-one
+highest-more row n = rw add-one
+
+-- of the six rows
+pub highest-rows : (l : List ℕ) → highestUsed (λ k. getD (rowsOf l) k []) 6 ≡ highestUsed (rowOf l) 6
+unfolding highestUsed
+highest-rows l = refl
 
 pub pattern-none : (l : List ℕ) (k : ℕ) → length l ≤ 24 * k
     → patternOf l k

@@ -3,7 +3,7 @@
 -- Assumes nothing.
 use mathlib.Core.Path.{_≡_, refl, sym, ap, _∙_}
 use mathlib.Core.Bool.{Bool, true, false, cond}
-use mathlib.Core.List.{List, [], _++_}
+use mathlib.Core.List.{List, []}
 use Prim.Native.Nat.{ℕ, suc, _+_, _*_, _≤_, _<_}
 use native.Mathlib.Omega.{arith}
 use borrow.Author.Tests.{le-leb}
@@ -19,38 +19,39 @@ use Rattle.profile.specs.Values.{
   emptyField,
   emptyTables,
   emptyProfile,
+  setRegisters,
+  setSequences,
+  setGates,
+  setSubck,
+  setShutters,
+  setTables,
+  setField,
   accepted,
   readAnswer,
 }
-use Rattle.profile.specs.Ranges.{inRange, fieldIn, regionIn}
+use Rattle.profile.specs.Ranges.{inRange, headIn, regionIn}
 use Rattle.profile.specs.Rules.{checkProfile}
-use Rattle.profile.specs.Reading.{inField}
-use Rattle.profile.specs.Script.{next, records, readScript}
+use Rattle.profile.specs.Script.{mostBytes, records, readScript}
 use Rattle.profile.specs.Writing.{
   registerChunk,
   sequenceRecord,
   sequenceChunk,
-  fieldRecord,
   fieldChunk,
   gateRecord,
   gateChunk,
-  subckRecord,
   subckChunk,
   shutterRecord,
   shutterChunk,
   writeScript,
   writeLeaves,
 }
-use Rattle.profile.specs.declared.Sequence.{Sequence}
 use Rattle.profile.specs.declared.Field.{Field}
-use Rattle.profile.specs.declared.Gate.{Gate}
 use Rattle.profile.specs.declared.Subck.{Subck}
-use Rattle.profile.specs.declared.Shutter.{Shutter}
 use Rattle.profile.specs.declared.Profile.{Profile}
 use Rattle.profile.proofs.Checked.{check-range, check-judge}
 use Rattle.profile.proofs.Sizes.{script-high}
 use Rattle.profile.proofs.Rebuild.{mix, mix-set, mix-pair, mix-same, mix-all}
-use Rattle.profile.proofs.Takes.{Takes, takes-record, takes-then, takes-cond, takes-chunks, takes-all}
+use Rattle.profile.proofs.Takes.{Takes, takes-then, takes-cond, takes-chunks, takes-all}
 use Rattle.profile.proofs.Items.{
   Items,
   items,
@@ -67,18 +68,13 @@ use Rattle.profile.proofs.Items.{
   region-absent,
 }
 use Rattle.profile.proofs.Bodies.{
-  replaceRegisters,
-  replaceSequences,
-  replaceGates,
-  replaceSubck,
-  replaceShutters,
-  step-register,
-  step-sequence,
-  step-gate,
-  step-subck,
-  step-shutter,
+  takes-register,
+  takes-sequence,
+  takes-gate,
+  takes-subck,
+  takes-shutter,
 }
-use Rattle.profile.proofs.FieldBody.{step-field, length-record}
+use Rattle.profile.proofs.FieldBody.{takes-field}
 
 -- ---- an array of items, of which those present are written
 
@@ -94,7 +90,7 @@ module _ {A : Type 0} (n : ℕ) (d : A) (present : A → Bool) (written : ℕ �
   takes-item k h =
       let l : length xs ≡ length (replicate n d) = omega (arith, length-replicate n d) in
       let u : k < length xs = omega arith in
-      takes-cond (present (getD xs k d)) (written k (getD xs k d)) (soFar k) (soFar (suc k))
+      takes-cond (present (getD xs k d))
       (λ e.
       let m = mix-set k xs (replicate n d) d l u in
       rw m at (given k h e (mix k xs (replicate n d))))
@@ -107,7 +103,7 @@ module _ {A : Type 0} (n : ℕ) (d : A) (present : A → Bool) (written : ℕ �
 
 -- ---- the field that is absent
 
-absent-field : (f : Field) → f .present ≡ false → length (f .regions) ≡ 7 → fieldIn f ≡ true
+absent-field : (f : Field) → f .present ≡ false → length (f .regions) ≡ 7 → headIn f ≡ true
     → ((i : ℕ) → i < 7 → regionIn f i ≡ true) → f ≡ emptyField
 unfolding emptyField
 absent-field f e l o r =
@@ -133,112 +129,83 @@ absent-field f e l o r =
 module _ (p : Profile) (z : Sized p) (r : Items p) where
   -- the profile after the registers, the sequences, the field, the gates, SUBCK
   abbrev p1 : Profile
-  p1 = replaceRegisters (p .tables .registers) emptyProfile
+  p1 = setTables (setRegisters (p .tables .registers) emptyTables) emptyProfile
 
   abbrev p2 : Profile
-  p2 = replaceSequences (p .tables .sequences) p1
+  p2 = setTables (setSequences (p .tables .sequences) (p1 .tables)) p1
 
   abbrev p3 : Profile
-  p3 = inField (p .field) p2
+  p3 = setField (p .field) p2
 
   abbrev p4 : Profile
-  p4 = replaceGates (p .tables .gates) p3
+  p4 = setTables (setGates (p .tables .gates) (p3 .tables)) p3
 
   abbrev p5 : Profile
-  p5 = replaceSubck (p .tables .subck) p4
+  p5 = setTables (setSubck (p .tables .subck) (p4 .tables)) p4
 
   -- after i registers
   abbrev halves : ℕ → Profile
-  halves i = replaceRegisters (mix (2 * i) (p .tables .registers) (emptyTables .registers)) emptyProfile
+  halves i = setTables (setRegisters (mix (2 * i) (p .tables .registers) (emptyTables .registers)) emptyTables) emptyProfile
 
   length-empty : length (emptyTables .registers) ≡ 240
   unfolding emptyTables
   length-empty = length-replicate {A = ℕ} 240 0
 
-  takes-register : (i : ℕ) → i < 120 → Takes (registerChunk (p .tables .registers) i) (halves i) (halves (suc i))
-  takes-register i h =
+  takes-halves : (i : ℕ) → i < 120 → Takes (registerChunk (p .tables .registers) i) (halves i) (halves (suc i))
+  takes-halves i h =
       let e : 2 * i + 2 ≡ 2 * suc i = omega arith in
       let l : length (p .tables .registers) ≡ length (emptyTables .registers) = z .registers ∙ sym length-empty in
       let u : 2 * i + 1 < length (p .tables .registers) = omega (arith, z .registers) in
       let m = mix-pair (2 * i) (p .tables .registers) (emptyTables .registers) 0 l u in
-      takes-record (registerChunk (p .tables .registers) i) 4 (halves i) (halves (suc i)) refl
-      (λ rest.
-      step-register i _ _ rest (halves i) h (r .halves (2 * i) (omega arith)) (r .halves (2 * i + 1) (omega arith))
-      ∙ ap (λ (l : List ℕ). next 4 (replaceRegisters l emptyProfile))
-      (m ∙ ap (λ (n : ℕ). mix n (p .tables .registers) (emptyTables .registers)) e))
+      rw (m, e) at (takes-register i _ _ (halves i) h (r .halves (2 * i) (omega arith)) (r .halves (2 * i + 1) (omega arith)))
 
   takes-registers : Takes (chunks 120 (registerChunk (p .tables .registers))) emptyProfile p1
   takes-registers =
       rw (mix-all 240 (p .tables .registers) (emptyTables .registers) (z .registers) length-empty)
-      at (takes-chunks 120 (registerChunk (p .tables .registers)) halves takes-register)
+      at (takes-chunks 120 (registerChunk (p .tables .registers)) halves takes-halves)
 
   takes-sequences : Takes (chunks 10 (sequenceChunk (p .tables .sequences))) p1 p2
   unfolding emptyTables
   takes-sequences =
-      let at : ℕ → Sequence = λ k. getD (p .tables .sequences) k emptySequence in
-      takes-items 10 emptySequence (λ s. s .present) sequenceRecord (λ l. replaceSequences l p1) (p .tables .sequences) (z .sequences)
-      (λ k h e l.
-      takes-record (sequenceRecord k (at k)) 14 (replaceSequences l p1) (replaceSequences (set l k (at k)) p1) refl
-      (λ rest. step-sequence k (at k) rest (replaceSequences l p1) h e (sequence-present (at k) (r .sequences k h) e)))
-      (λ k h e. sequence-absent (at k) (r .sequences k h) e)
+      takes-items 10 emptySequence (λ s. s .present) sequenceRecord (λ l. setTables (setSequences l (p1 .tables)) p1) (p .tables .sequences)
+      (z .sequences)
+      (λ k h e l. takes-sequence k _ _ h e (sequence-present _ (r .sequences k h) e))
+      (λ k h e. sequence-absent _ (r .sequences k h) e)
 
-  takes-field : Takes (fieldChunk (p .field)) p2 p3
-  takes-field =
-      takes-cond (p .field .present) (fieldRecord (p .field)) p2 p3
-      (λ e.
-      let f = p .field in
-      let g = field-present f (r .field) e in
-      takes-record (fieldRecord f) (10 + 6 * f .count) p2 p3 (length-record f (z .regions) e g (r .regions))
-      (λ rest. step-field f (z .regions) e g (r .regions) rest p2))
-      (λ e.
-      ap (λ (f : Field). inField f p2)
-      (sym (absent-field (p .field) e (z .regions) (r .field) (r .regions))))
+  takes-present : Takes (fieldChunk (p .field)) p2 p3
+  takes-present =
+      takes-cond (p .field .present)
+      (λ e. takes-field (p .field) (z .regions) e (field-present (p .field) (r .field) e) (r .regions) p2)
+      (λ e. ap (λ (f : Field). setField f p2) (sym (absent-field (p .field) e (z .regions) (r .field) (r .regions))))
 
   takes-gates : Takes (chunks 5 (gateChunk (p .tables .gates))) p3 p4
   unfolding emptyTables
   takes-gates =
-      let at : ℕ → Gate = λ k. getD (p .tables .gates) k emptyGate in
-      takes-items 5 emptyGate (λ g. g .present) gateRecord (λ l. replaceGates l p3) (p .tables .gates) (z .gates)
-      (λ k h e l.
-      takes-record (gateRecord k (at k)) 10 (replaceGates l p3) (replaceGates (set l k (at k)) p3) refl
-      (λ rest. step-gate k (at k) rest (replaceGates l p3) h e (gate-present (at k) (r .gates k h) e)))
-      (λ k h e. gate-absent (at k) (r .gates k h) e)
+      takes-items 5 emptyGate (λ g. g .present) gateRecord (λ l. setTables (setGates l (p3 .tables)) p3) (p .tables .gates) (z .gates)
+      (λ k h e l. takes-gate k _ _ h e (gate-present _ (r .gates k h) e))
+      (λ k h e. gate-absent _ (r .gates k h) e)
 
-  takes-subck : Takes (subckChunk (p .tables .subck)) p4 p5
+  takes-sub : Takes (subckChunk (p .tables .subck)) p4 p5
   unfolding emptyTables
-  takes-subck =
+  takes-sub =
       let s = p .tables .subck in
-      takes-cond (s .present) (subckRecord s) p4 p5
-      (λ e. takes-record (subckRecord s) 10 p4 p5 refl (λ rest. step-subck s rest p4 e (subck-present s (r .subck) e)))
-      (λ e. ap (λ (s : Subck). replaceSubck s p4) (sym (subck-absent s (r .subck) e)))
+      takes-cond (s .present)
+      (λ e. takes-subck s p4 e (subck-present s (r .subck) e))
+      (λ e. ap (λ (s : Subck). setTables (setSubck s (p4 .tables)) p4) (sym (subck-absent s (r .subck) e)))
 
   takes-shutters : Takes (chunks 2 (shutterChunk (p .tables .shutters))) p5 p
   unfolding emptyTables
   takes-shutters =
-      let at : ℕ → Shutter = λ k. getD (p .tables .shutters) k emptyShutter in
-      takes-items 2 emptyShutter (λ s. s .present) shutterRecord (λ l. replaceShutters l p5) (p .tables .shutters) (z .shutters)
-      (λ k h e l.
-      takes-record (shutterRecord k (at k)) 12 (replaceShutters l p5) (replaceShutters (set l k (at k)) p5) refl
-      (λ rest. step-shutter k (at k) rest (replaceShutters l p5) h e (shutter-present (at k) (r .shutters k h) e)))
-      (λ k h e. shutter-absent (at k) (r .shutters k h) e)
+      takes-items 2 emptyShutter (λ s. s .present) shutterRecord (λ l. setTables (setShutters l (p5 .tables)) p5) (p .tables .shutters)
+      (z .shutters)
+      (λ k h e l. takes-shutter k _ _ h e (shutter-present _ (r .shutters k h) e))
+      (λ k h e. shutter-absent _ (r .shutters k h) e)
 
   -- the whole script
   takes-script : Takes (writeScript p) emptyProfile p
   unfolding writeScript
   takes-script =
-      let t = p .tables in
-      let a = chunks 120 (registerChunk (t .registers)) in
-      let b = chunks 10 (sequenceChunk (t .sequences)) in
-      let c = fieldChunk (p .field) in
-      let d = chunks 5 (gateChunk (t .gates)) in
-      let e = subckChunk (t .subck) in
-      let f = chunks 2 (shutterChunk (t .shutters)) in
-      takes-then (a ++ b ++ c ++ d ++ e) f emptyProfile p5 p
-      (takes-then (a ++ b ++ c ++ d) e emptyProfile p4 p5
-      (takes-then (a ++ b ++ c) d emptyProfile p3 p4
-      (takes-then (a ++ b) c emptyProfile p2 p3 (takes-then a b emptyProfile p1 p2 takes-registers takes-sequences) takes-field)
-      takes-gates)
-      takes-subck)
+      takes-then (takes-then (takes-then (takes-then (takes-then takes-registers takes-sequences) takes-present) takes-gates) takes-sub)
       takes-shutters
 
 pub records-back : (p : Profile) → Sized p → inRange p ≡ true → records 0 0 (writeScript p) emptyProfile ≡ readAnswer accepted p
@@ -250,7 +217,7 @@ pub round-trip : (p : Profile) → Sized p → checkProfile p ≡ accepted
 unfolding readScript
 round-trip p z e =
     let i = check-range p e in
-    rw (le-leb (length (writeScript p)) 16384 (omega (arith, script-high p)), records-back p z i, ← check-judge p i, e)
+    rw (le-leb (length (writeScript p)) mostBytes (omega (arith, script-high p)), records-back p z i, ← check-judge p i, e)
 
 -- what the writer leaves, taken at its length, reads as the profile
 pub write-read : (p : Profile) → Sized p → checkProfile p ≡ accepted → (out : List ℕ) → length (writeScript p) ≤ length out

@@ -6,16 +6,21 @@ use mathlib.Core.Path.{_≡_, refl, sym, ap, subst, _∙_}
 use mathlib.Core.Logic.{_↔_, _⊎_, inl, inr}
 use mathlib.Core.Bool.{Bool, true, false, not, _||_, false≢true}
 use mathlib.Core.List.{List, [], _∷_, _++_, append-assoc, append-nil}
-use lib.ListN.{length, getD, take, drop, length-append, take-append-drop, length-drop}
-use lib.Seq.{length-take-le, take-append-seam}
+use lib.ListN.{length, getD, drop, length-append, take-append-drop, length-drop}
+use lib.Seq.{length-take-le}
 use lib.Dec.{ltb, leb, eqb}
 use borrow.Author.Tests.{ltb-true, ltb-false, leb-true, leb-false, eqb-true, lt-ltb, le-ltb, le-leb, lt-leb, eq-eqb, ne-eqb}
 use Rattle.profile.specs.Lists.{all}
 use Rattle.profile.specs.Bytes.{Bytes, numberAt, dataAt, twoBytes}
 use Rattle.profile.specs.Values.{emptyProfile, accepted, refused, readAnswer}
 use Rattle.profile.specs.Ranges.{sequenceRange, fieldRange, gateRange, shutterRange, inRange}
+use Rattle.profile.specs.Obeys.{SequenceRanged, GateRanged, ShutterRanged}
 use Rattle.profile.specs.Rules.{checkProfile}
 use Rattle.profile.specs.Script.{
+  kinds,
+  headLength,
+  regionLength,
+  mostBytes,
   registerFits,
   sequenceFits,
   fieldFits,
@@ -31,10 +36,9 @@ use Rattle.profile.specs.Script.{
   known,
   allowed,
   fits,
-  put,
+  withRecord,
   bodyOf,
   stop,
-  next,
   step,
   records,
   judged,
@@ -60,7 +64,7 @@ use Rattle.profile.specs.Records.{
   Record,
   bytesOf,
   scriptOf,
-  putAll,
+  withRecords,
   profileOf,
   Fault,
   header-cut,
@@ -84,15 +88,15 @@ use Rattle.profile.proofs.Reflects.{Says, says-le, says-eq, says-and, s
 use Rattle.profile.proofs.Checked.{check-judge}
 use Rattle.profile.proofs.Accepted.{Judged, check-judged, accepted-exactly, refused-exactly, broken-number}
 use Rattle.profile.proofs.Carried.{sequence-says, gate-says, subck-says, shutter-says, field-says}
-use Rattle.profile.proofs.Takes.{Takes, takes-record, takes-none, takes-then, takes-all, records-stop}
-use Rattle.profile.proofs.Bodies.{join-two, step-takes}
+use Rattle.profile.proofs.Takes.{Takes, takes-none, takes-then, takes-all, records-stop}
+use Rattle.profile.proofs.Bodies.{takes-written}
 use Rattle.profile.proofs.ByteRange.{bytes-tail}
 use Rattle.profile.proofs.Reading.{records-in, empty-in}
 
 -- ---- kinds and lengths
 
 says-known : (k : ℕ) → Says (known k) (Known k)
-says-known k = says-and (says-le 1 k) (says-le k 6)
+says-known k = says-and (says-le 1 k) (says-le k kinds)
 
 known-allowed : (k l : ℕ) → Allowed k l → Known k
 known-allowed k l register-4 = (omega arith, omega arith)
@@ -107,8 +111,9 @@ unfolding allowed
 allowed-test k l register-4 = refl
 allowed-test k l sequence-14 = refl
 allowed-test k l (field-6n n a b) =
-    let m : (10 + 6 * n - 10) % 6 ≡ 0 = omega arith in
-    and-intro (and-intro (le-leb 16 (10 + 6 * n) (omega arith)) (le-leb (10 + 6 * n) 52 (omega arith))) (eq-eqb ((10 + 6 * n - 10) % 6) 0 m)
+    let len = headLength + regionLength * n in
+    let m : (len - headLength) % regionLength ≡ 0 = omega arith in
+    and-intro (and-intro (le-leb 16 len (omega arith)) (le-leb len 52 (omega arith))) (eq-eqb ((len - headLength) % regionLength) 0 m)
 allowed-test k l gate-10 = refl
 allowed-test k l subck-10 = refl
 allowed-test k l shutter-12 = refl
@@ -122,9 +127,10 @@ test-allowed zero l h e = absurd (omega arith)
 test-allowed (suc zero) l h e = exact 1 4 l register-4 e
 test-allowed (suc (suc zero)) l h e = exact 2 14 l sequence-14 e
 test-allowed (suc (suc (suc zero))) l h e =
-    let w = says-and (says-and (says-le 16 l) (says-le l 52)) (says-eq ((l - 10) % 6) 0) .0 e in
-    let q : 10 + 6 * ((l - 10) / 6) ≡ l = omega (arith, w .0 .0, w .1) in
-    subst (λ (x : ℕ). Allowed 3 x) q (field-6n ((l - 10) / 6) (omega (arith, w .0 .0)) (omega (arith, w .0 .1)))
+    let w = says-and (says-and (says-le 16 l) (says-le l 52)) (says-eq ((l - headLength) % regionLength) 0) .0 e in
+    let n = (l - headLength) / regionLength in
+    let q : headLength + regionLength * n ≡ l = omega (arith, w .0 .0, w .1) in
+    subst (λ (x : ℕ). Allowed 3 x) q (field-6n n (omega (arith, w .0 .0)) (omega (arith, w .0 .1)))
 test-allowed (suc (suc (suc (suc zero)))) l h e = exact 4 10 l gate-10 e
 test-allowed (suc (suc (suc (suc (suc zero))))) l h e = exact 5 10 l subck-10 e
 test-allowed (suc (suc (suc (suc (suc (suc zero)))))) l h e = exact 6 12 l shutter-12 e
@@ -132,14 +138,6 @@ test-allowed (suc (suc (suc (suc (suc (suc (suc k))))))) l h e = absurd (omega (
 
 says-allowed : (k l : ℕ) → Known k → Says (allowed k l) (Allowed k l)
 says-allowed k l h = (test-allowed k l h, allowed-test k l)
-
-allowed-small : (k l : ℕ) → Allowed k l → l ≤ 52
-allowed-small k l register-4 = omega arith
-allowed-small k l sequence-14 = omega arith
-allowed-small k l (field-6n n a b) = omega arith
-allowed-small k l gate-10 = omega arith
-allowed-small k l subck-10 = omega arith
-allowed-small k l shutter-12 = omega arith
 
 -- ---- values
 
@@ -157,72 +155,67 @@ module _ (b : List ℕ) where
     λ w. all-passed (leb n top ∷ tests) (le-leb n top (w .0), passed tests (s .1 (w .1))),
   )
 
+  says-register : Says (registerFits b) ((getD b 0 0 ≤ 0x77) × (getD b 0 0 % 12 ≡ 0 → dataAt b 1 / 64 % 64 ≡ 0))
+  unfolding registerFits
+  says-register =
+      let tests = leb (getD b 0 0) 0x77 ∷ (not (eqb (getD b 0 0 % 12) 0) || eqb (dataAt b 1 / 64 % 64) 0) ∷ [] in
+      let word = says-where (says-eq (getD b 0 0 % 12) 0) (says-eq (dataAt b 1 / 64 % 64) 0) in (
+        (λ e. let w = passed tests e in (leb-true _ _ (w .0), word .0 (w .1 .0))),
+        λ w. all-passed tests (le-leb _ _ (w .0), (word .1 (w .1), tt)),
+      )
+
+  says-sequence : Says (sequenceFits b) ((numberAt b 0 ≤ 9) × SequenceRanged (sequenceFrom b))
+  unfolding sequenceFits
+  says-sequence = says-numbered (numberAt b 0) 9 (sequenceRange (sequenceFrom b)) _ (sequence-says (sequenceFrom b))
+
+  says-gate : Says (gateFits b) ((numberAt b 0 ≤ 4) × GateRanged (gateFrom b))
+  unfolding gateFits
+  says-gate = says-numbered (numberAt b 0) 4 (gateRange (gateFrom b)) _ (gate-says (gateFrom b))
+
+  says-shutter : Says (shutterFits b) ((numberAt b 0 ≤ 1) × ShutterRanged (shutterFrom b))
+  unfolding shutterFits
+  says-shutter = says-numbered (numberAt b 0) 1 (shutterRange (shutterFrom b)) _ (shutter-says (shutterFrom b))
+
   pub fits-test : (k : ℕ) → Fits b k → fits k b ≡ true
-  unfolding fits registerFits sequenceFits fieldFits gateFits subckFits shutterFits
-  fits-test k (register-fits h w) =
-      all-passed _ (le-leb _ _ h, (says-where (says-eq (getD b 0 0 % 12) 0) (says-eq (dataAt b 1 / 64 % 64) 0) .1 w, tt))
-  fits-test k (sequence-fits h w) = says-numbered (numberAt b 0) 9 (sequenceRange (sequenceFrom b)) _ (sequence-says (sequenceFrom b)) .1 (h, w)
+  unfolding fits fieldFits subckFits
+  fits-test k (register-fits h w) = says-register .1 (h, w)
+  fits-test k (sequence-fits h w) = says-sequence .1 (h, w)
   fits-test k (field-fits h w r) =
       and-intro
-      (all-passed (eqb (10 + 6 * numberAt b 8) (length b) ∷ fieldRange (fieldFrom b))
-      (eq-eqb (10 + 6 * numberAt b 8) (length b) h, passed (fieldRange (fieldFrom b)) (field-says (fieldFrom b) .1 w)))
+      (all-passed (eqb (headLength + regionLength * numberAt b 8) (length b) ∷ fieldRange (fieldFrom b))
+      (eq-eqb (headLength + regionLength * numberAt b 8) (length b) h, passed (fieldRange (fieldFrom b)) (field-says (fieldFrom b) .1 w)))
       (chunks-all (numberAt b 8) (regionFits b) (λ i l. says-region i .1 (r i l)))
-  fits-test k (gate-fits h w) = says-numbered (numberAt b 0) 4 (gateRange (gateFrom b)) _ (gate-says (gateFrom b)) .1 (h, w)
+  fits-test k (gate-fits h w) = says-gate .1 (h, w)
   fits-test k (subck-fits w) = subck-says (subckFrom b) .1 w
-  fits-test k (shutter-fits h w) = says-numbered (numberAt b 0) 1 (shutterRange (shutterFrom b)) _ (shutter-says (shutterFrom b)) .1 (h, w)
+  fits-test k (shutter-fits h w) = says-shutter .1 (h, w)
 
   test-fits : (k : ℕ) → Known k → fits k b ≡ true → Fits b k
-  unfolding fits registerFits sequenceFits fieldFits gateFits subckFits shutterFits
+  unfolding fits fieldFits subckFits
   test-fits zero h e = absurd (omega arith)
-  test-fits (suc zero) h e =
-      let w = passed (leb (getD b 0 0) 0x77 ∷ (not (eqb (getD b 0 0 % 12) 0) || eqb (dataAt b 1 / 64 % 64) 0) ∷ []) e in
-      register-fits (leb-true _ _ (w .0)) (says-where (says-eq (getD b 0 0 % 12) 0) (says-eq (dataAt b 1 / 64 % 64) 0) .0 (w .1 .0))
-  test-fits (suc (suc zero)) h e =
-      let w = says-numbered (numberAt b 0) 9 (sequenceRange (sequenceFrom b)) _ (sequence-says (sequenceFrom b)) .0 e in
-      sequence-fits (w .0) (w .1)
+  test-fits (suc zero) h e = let w = says-register .0 e in register-fits (w .0) (w .1)
+  test-fits (suc (suc zero)) h e = let w = says-sequence .0 e in sequence-fits (w .0) (w .1)
   test-fits (suc (suc (suc zero))) h e =
-      let tests = eqb (10 + 6 * numberAt b 8) (length b) ∷ fieldRange (fieldFrom b) in
+      let tests = eqb (headLength + regionLength * numberAt b 8) (length b) ∷ fieldRange (fieldFrom b) in
       let w = passed tests (and-left (all tests) _ e) in
       let r = and-right (all tests) _ e in
       field-fits (eqb-true _ _ (w .0)) (field-says (fieldFrom b) .0 (all-passed (fieldRange (fieldFrom b)) (w .1)))
       (λ i l. says-region i .0 (all-chunks (numberAt b 8) (regionFits b) r i l))
-  test-fits (suc (suc (suc (suc zero)))) h e =
-      let w = says-numbered (numberAt b 0) 4 (gateRange (gateFrom b)) _ (gate-says (gateFrom b)) .0 e in
-      gate-fits (w .0) (w .1)
+  test-fits (suc (suc (suc (suc zero)))) h e = let w = says-gate .0 e in gate-fits (w .0) (w .1)
   test-fits (suc (suc (suc (suc (suc zero))))) h e = subck-fits (subck-says (subckFrom b) .0 e)
-  test-fits (suc (suc (suc (suc (suc (suc zero)))))) h e =
-      let w = says-numbered (numberAt b 0) 1 (shutterRange (shutterFrom b)) _ (shutter-says (shutterFrom b)) .0 e in
-      shutter-fits (w .0) (w .1)
+  test-fits (suc (suc (suc (suc (suc (suc zero)))))) h e = let w = says-shutter .0 e in shutter-fits (w .0) (w .1)
   test-fits (suc (suc (suc (suc (suc (suc (suc k))))))) h e = absurd (omega (arith, h .1))
 
 -- ---- one record
 
 -- a record that can be read is taken, whatever follows it
-takes-one : (r : Record) (p : Profile) → Takes (bytesOf r) p (put (r .kind) (r .body) p)
-takes-one r p = takes-record (bytesOf r) (length (r .body)) p (put (r .kind) (r .body) p) (omega arith) front
-  where
-    front : (rest : List ℕ) → step (bytesOf r ++ rest) p ≡ next (length (r .body)) (put (r .kind) (r .body) p)
-    front rest =
-        let s = bytesOf r ++ rest in
-        let size : numberAt s 0 ≡ length (r .body) = join-two (length (r .body)) in
-        let kind : numberAt s 2 ≡ r .kind = join-two (r .kind) in
-        let body : bodyOf s ≡ r .body = ap (λ (n : ℕ). take n (r .body ++ rest)) size ∙ take-append-seam (r .body) rest in
-        let h = known-allowed (r .kind) (length (r .body)) (r .allowed) in
-        let taken =
-        step-takes s p (subst (λ (k : ℕ). known k ≡ true) (sym kind) (says-known (r .kind) .1 h))
-        (subst (λ (k : ℕ). allowed k (numberAt s 0) ≡ true) (sym kind) (subst (λ (l : ℕ). allowed (r .kind) l ≡ true) (sym size) (allowed-test (r .kind) (length (r .body)) (r .allowed))))
-        (omega (arith, size, length-append (r .body) rest))
-        (subst (λ (k : ℕ). fits k (bodyOf s) ≡ true) (sym kind) (subst (λ (b : List ℕ). fits (r .kind) b ≡ true) (sym body) (fits-test (r .body) (r .kind) (r .fits)))) in
-        taken
-        ∙ ap (λ (n : ℕ). next n (put (numberAt s 2) (bodyOf s) p)) size
-        ∙ ap (λ (k : ℕ). next (length (r .body)) (put k (bodyOf s) p)) kind
-        ∙ ap (λ (b : List ℕ). next (length (r .body)) (put (r .kind) b p)) body
+takes-one : (r : Record) (p : Profile) → Takes (bytesOf r) p (withRecord (r .kind) (r .body) p)
+takes-one r p =
+    takes-written (r .kind) (r .body) (says-known (r .kind) .1 (known-allowed (r .kind) (length (r .body)) (r .allowed)))
+    (allowed-test (r .kind) (length (r .body)) (r .allowed)) (fits-test (r .body) (r .kind) (r .fits)) refl
 
-takes-many : (rs : List Record) (p : Profile) → Takes (scriptOf rs) p (putAll rs p)
-takes-many [] p = takes-none p p refl
-takes-many (r ∷ rs) p =
-    takes-then (bytesOf r) (scriptOf rs) p (put (r .kind) (r .body) p) (putAll rs (put (r .kind) (r .body) p)) (takes-one r p)
-    (takes-many rs (put (r .kind) (r .body) p))
+takes-many : (rs : List Record) (p : Profile) → Takes (scriptOf rs) p (withRecords rs p)
+takes-many [] p = takes-none refl
+takes-many (r ∷ rs) p = takes-then (takes-one r p) (takes-many rs (withRecord (r .kind) (r .body) p))
 
 -- a fault stops the reading with its number
 not-said : {b : Bool} {A : Type 0} → Says b A → (A → ⊥) → b ≡ false
@@ -382,7 +375,7 @@ ended (suc turns) s h w = ended-next turns s (λ r l b. ended turns r l b) h w
 
 -- the records, then what is left of the script
 records-rest : (rs : List Record) (rest : List ℕ) → records 0 0 (scriptOf rs ++ rest) emptyProfile ≡ records 0 (length (scriptOf rs)) rest (profileOf rs)
-records-rest rs rest = takes-many rs emptyProfile 0 rest ∙ ap (λ (n : ℕ). records 0 n rest (profileOf rs)) (omega arith)
+records-rest rs rest = takes-many rs emptyProfile .on 0 rest ∙ ap (λ (n : ℕ). records 0 n rest (profileOf rs)) (omega arith)
 
 records-fault : (rest : List ℕ) (at n : ℕ) (p : Profile) → Fault rest n → records 0 at rest p ≡ readAnswer (refused n at) p
 records-fault [] at n p f = absurd (omega (arith, fault-some [] n f .0))
@@ -395,12 +388,12 @@ judged-refused : (n at : ℕ) → 1 ≤ n → judged (unread n at) ≡ unread n 
 judged-refused n at h = rw (ne-eqb n 0 (omega arith))
 
 -- a script that is not too long
-short-read : (s : List ℕ) → length s ≤ 16384 → readScript s ≡ judged (records 0 0 s emptyProfile)
+short-read : (s : List ℕ) → length s ≤ mostBytes → readScript s ≡ judged (records 0 0 s emptyProfile)
 unfolding readScript
-short-read s h = rw (le-leb (length s) 16384 h)
+short-read s h = rw (le-leb (length s) mostBytes h)
 
 -- whole records are judged by the check of what they give
-whole-read : (s : List ℕ) → Bytes s → (rs : List Record) → length s ≤ 16384 → s ≡ scriptOf rs
+whole-read : (s : List ℕ) → Bytes s → (rs : List Record) → length s ≤ mostBytes → s ≡ scriptOf rs
     → readScript s ≡ readAnswer (checkProfile (profileOf rs)) (profileOf rs)
 whole-read s b rs h e =
     let q = profileOf rs in
@@ -411,7 +404,7 @@ whole-read s b rs h e =
 -- there is no other answer
 reads-one : (s : List ℕ) → Bytes s → (a : ReadAnswer) → Reads s a → readScript s ≡ a
 unfolding readScript
-reads-one s b a (too-long h) = rw (lt-leb (length s) 16384 h)
+reads-one s b a (too-long h) = rw (lt-leb (length s) mostBytes h)
 reads-one s b a (stopped rs rest n h e f) =
     let at = length (scriptOf rs) in
     let some = fault-some rest n f .1 in
@@ -428,14 +421,14 @@ reads-one s b a (obeyed rs h e f) =
     whole-read s b rs h e ∙ ap (λ (v : Verdict). readAnswer v (profileOf rs)) (accepted-exactly (profileOf rs) .1 f)
 
 -- there is an answer
-reads-whole : (s : List ℕ) (rs : List Record) → length s ≤ 16384 → s ≡ scriptOf rs → Judged (profileOf rs) (checkProfile (profileOf rs))
+reads-whole : (s : List ℕ) (rs : List Record) → length s ≤ mostBytes → s ≡ scriptOf rs → Judged (profileOf rs) (checkProfile (profileOf rs))
     → (a : ReadAnswer) × Reads s a
 reads-whole s rs h e (inl w) = (taken (profileOf rs), obeyed rs h e (w .0))
 reads-whole s rs h e (inr w) =
     let v = checkProfile (profileOf rs) in
     (unread (v .number) (v .place), broken rs (v .number) (v .place) h e w)
 
-reads-end : (s : List ℕ) → length s ≤ 16384 → (w : Ended s) → (w .rest ≡ []) ⊎ Faulty (w .rest) → (a : ReadAnswer) × Reads s a
+reads-end : (s : List ℕ) → length s ≤ mostBytes → (w : Ended s) → (w .rest ≡ []) ⊎ Faulty (w .rest) → (a : ReadAnswer) × Reads s a
 reads-end s h w (inl z) =
     reads-whole s (w .all-of) h (w .there ∙ ap (λ (l : List ℕ). scriptOf (w .all-of) ++ l) z ∙ append-nil (scriptOf (w .all-of)))
     (check-judged (profileOf (w .all-of)))
@@ -443,9 +436,9 @@ reads-end s h w (inr f) = (unread (f .0) (length (scriptOf (w .all-of))), stoppe
 
 reads-some : (s : List ℕ) → Bytes s → (a : ReadAnswer) × Reads s a
 reads-some s b =
-    by-cases (leb (length s) 16384)
-    (λ h. let w = ended (length s) s (omega arith) b in reads-end s (leb-true (length s) 16384 h) w (w .ends))
-    (λ h. (unread 1 0, too-long (leb-false (length s) 16384 h)))
+    by-cases (leb (length s) mostBytes)
+    (λ h. let w = ended (length s) s (omega arith) b in reads-end s (leb-true (length s) mostBytes h) w (w .ends))
+    (λ h. (unread 1 0, too-long (leb-false (length s) mostBytes h)))
 
 -- reading answers exactly what the script says: too long; the first fault after whole records; the first broken rule of what the records give; or
 -- that, where none is broken

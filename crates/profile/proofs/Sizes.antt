@@ -10,14 +10,14 @@ use borrow.Author.Tests.{leb-true}
 use lib.ListN.{length, getD, length-append}
 use Rattle.profile.specs.Lists.{chunks}
 use Rattle.profile.specs.Values.{emptySequence, emptyGate, emptyShutter, accepted}
-use Rattle.profile.specs.Geometry.{regionCount, regionAt}
+use Rattle.profile.specs.Geometry.{regionAt}
 use Rattle.profile.specs.Ranges.{regionRange}
 use Rattle.profile.specs.Rules.{checkProfile}
 use Rattle.profile.specs.Writing.{
+  longestScript,
   registerChunk,
   sequenceRecord,
   sequenceChunk,
-  regionBytes,
   fieldRecord,
   fieldChunk,
   gateRecord,
@@ -29,21 +29,17 @@ use Rattle.profile.specs.Writing.{
   writeScript,
 }
 use Rattle.profile.specs.declared.Sequence.{Sequence}
-use Rattle.profile.specs.declared.Gate.{Gate}
-use Rattle.profile.specs.declared.Shutter.{Shutter}
 use Rattle.profile.specs.declared.Field.{Field}
 use Rattle.profile.specs.declared.Profile.{Profile}
 use Rattle.profile.proofs.Laws.{cond-case, passed, length-chunks, length-chunks-le, chunk-room}
 use Rattle.profile.proofs.Checked.{check-range}
 use Rattle.profile.proofs.Accepted.{accepted-exactly, accepted-field}
+use Rattle.profile.proofs.Stores.{length-field}
 use Rattle.profile.proofs.Items.{items, field-present, field-count, region-present}
 
 -- what is written only where b holds is at most so long
 chosen-le : (b : Bool) (s : List ℕ) (n : ℕ) → length s ≤ n → length (cond b s []) ≤ n
 chosen-le b s n h = cond-case (λ (l : List ℕ). length l ≤ n) b s [] (λ e. h) (λ e. omega arith)
-
-pub length-field : (f : Field) → length (fieldRecord f) ≡ 14 + 6 * regionCount f
-length-field f = omega (arith, length-chunks 6 (regionCount f) (regionBytes f) (λ i. refl))
 
 -- the parts' lengths add up
 pub length-script : (p : Profile)
@@ -64,26 +60,24 @@ length-script p =
       length-chunks 8 120 (registerChunk (p .tables .registers)) (λ i. refl),
     )
 
-sequence-le : (ss : List Sequence) (k : ℕ) → length (sequenceChunk ss k) ≤ 18
-sequence-le ss k = chosen-le (getD ss k emptySequence .present) (sequenceRecord k (getD ss k emptySequence)) 18 (omega arith)
+-- an array of n items, of which those present are written, each in at most m bytes
+items-le : {A : Type 0} (n m : ℕ) (present : A → Bool) (written : ℕ → A → List ℕ) (d : A) (xs : List A)
+    → ((k : ℕ) (x : A) → length (written k x) ≤ m)
+    → length (chunks n (λ k. cond (present (getD xs k d)) (written k (getD xs k d)) [])) ≤ n * m
+items-le n m present written d xs h =
+    length-chunks-le m n _ (λ k. chosen-le (present (getD xs k d)) (written k (getD xs k d)) m (h k (getD xs k d)))
 
-gate-le : (gs : List Gate) (k : ℕ) → length (gateChunk gs k) ≤ 14
-gate-le gs k = chosen-le (getD gs k emptyGate .present) (gateRecord k (getD gs k emptyGate)) 14 (omega arith)
-
-shutter-le : (ss : List Shutter) (k : ℕ) → length (shutterChunk ss k) ≤ 16
-shutter-le ss k = chosen-le (getD ss k emptyShutter .present) (shutterRecord k (getD ss k emptyShutter)) 16 (omega arith)
-
-pub script-high : (p : Profile) → length (writeScript p) ≤ 1312
+pub script-high : (p : Profile) → length (writeScript p) ≤ longestScript
 script-high p =
     let t = p .tables in
     omega (
       arith,
       length-script p,
-      length-chunks-le 18 10 (sequenceChunk (t .sequences)) (sequence-le (t .sequences)),
+      items-le 10 18 (λ s. s .present) sequenceRecord emptySequence (t .sequences) (λ k s. omega arith),
       chosen-le (p .field .present) (fieldRecord (p .field)) 56 (omega (arith, length-field (p .field))),
-      length-chunks-le 14 5 (gateChunk (t .gates)) (gate-le (t .gates)),
+      items-le 5 14 (λ g. g .present) gateRecord emptyGate (t .gates) (λ k g. omega arith),
       chosen-le (t .subck .present) (subckRecord (t .subck)) 14 (omega arith),
-      length-chunks-le 16 2 (shutterChunk (t .shutters)) (shutter-le (t .shutters)),
+      items-le 2 16 (λ s. s .present) shutterRecord emptyShutter (t .shutters) (λ k s. omega arith),
     )
 
 -- a sequence that is present takes 18 bytes
@@ -108,9 +102,9 @@ script-low p e =
     omega (
       arith,
       length-script p,
-      sequence-written (t .sequences) (regionAt f 0 .sequence) (omega arith) (accepted-exactly p .0 e 8 0 .sequence-given refl (omega arith)),
+      sequence-written (t .sequences) (regionAt f 0 .sequence) (omega arith) (accepted-exactly p .0 e 8 0 .fields .0 .sequence-given refl (omega arith)),
       field-written f h c,
     )
 
-pub script-length : (p : Profile) → checkProfile p ≡ accepted → (998 ≤ length (writeScript p)) × (length (writeScript p) ≤ 1312)
+pub script-length : (p : Profile) → checkProfile p ≡ accepted → (998 ≤ length (writeScript p)) × (length (writeScript p) ≤ longestScript)
 script-length p e = (script-low p e, script-high p)

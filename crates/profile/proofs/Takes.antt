@@ -14,7 +14,7 @@ use lib.Seq.{length-take-le}
 use Rattle.profile.specs.Lists.{chunks}
 use Rattle.profile.specs.Bytes.{numberAt}
 use Rattle.profile.specs.Values.{refused, accepted, readAnswer}
-use Rattle.profile.specs.Script.{known, allowed, fits, put, bodyOf, stop, next, step, records}
+use Rattle.profile.specs.Script.{known, allowed, fits, withRecord, bodyOf, stop, next, step, afterFirst, records}
 use Rattle.profile.specs.Reading.{foundFront}
 use Rattle.profile.specs.declared.Profile.{Profile}
 use Rattle.profile.specs.declared.records.Found.{Found}
@@ -31,7 +31,7 @@ pub record Whole (at : ℕ) (r : List ℕ) (f : Found) : Type 0 where
   pub right : allowed (numberAt r 2) (numberAt r 0) ≡ true
   pub long : 4 + numberAt r 0 ≤ length r
   pub values : (p : Profile) → step r p
-      ≡ cond (fits (numberAt r 2) (bodyOf r)) (next (numberAt r 0) (put (numberAt r 2) (bodyOf r) p)) (stop 5)
+      ≡ cond (fits (numberAt r 2) (bodyOf r)) (next (numberAt r 0) (withRecord (numberAt r 2) (bodyOf r) p)) (stop 5)
 
 -- found whole, or refused for the step too
 abbrev pub Known : ℕ → List ℕ → Found → Type 0
@@ -73,7 +73,7 @@ pub record Taken (s : List ℕ) (p : Profile) (len : ℕ) (q : Profile) : Type 0
   pub right : allowed (numberAt s 2) (numberAt s 0) ≡ true
   pub whole : 4 + numberAt s 0 ≤ length s
   pub values : fits (numberAt s 2) (bodyOf s) ≡ true
-  pub gives : put (numberAt s 2) (bodyOf s) p ≡ q
+  pub gives : withRecord (numberAt s 2) (bodyOf s) p ≡ q
 
 stop-next : {A : Type 0} (n len : ℕ) (q : Profile) → stop n ≡ next len q → A
 stop-next n len q e = let z : _≡_ {A = ℕ} 0 1 = cc in absurd (omega arith)
@@ -87,7 +87,7 @@ step-taken s p len q e =
     let v = sym (w .values p) ∙ e in
     by-cases (fits (numberAt s 2) (bodyOf s))
     (λ f.
-    let n : next (numberAt s 0) (put (numberAt s 2) (bodyOf s) p) ≡ next len q = rw f at v in
+    let n : next (numberAt s 0) (withRecord (numberAt s 2) (bodyOf s) p) ≡ next len q = rw f at v in
     record { size = cc; kind = w .known; right = w .right; whole = w .long; values = f; gives = cc })
     (λ f. stop-next 5 len q (rw f at v)))
     (λ z. stop-next (found .number) len q (sym (known-found 0 s .1 (eqb-false (found .number) 0 z) p) ∙ e))
@@ -108,7 +108,7 @@ pub read-record : (r rest : List ℕ) (at len : ℕ) (p q : Profile) → length 
 unfolding records
 read-record [] rest at len p q e s = absurd (omega arith)
 read-record (x ∷ ys) rest at len p q e s =
-    let n : 3 + len ≡ length ys = omega arith in
+    let n : afterFirst len ≡ length ys = omega arith in
     rw (s, records, n) (records-skip ys rest (at + 1) q ∙ ap (λ (m : ℕ). records 0 m rest q) (omega arith))
 
 -- for a reader in code, whose s is what is left of the script from at on
@@ -132,34 +132,37 @@ records-done skip at p = refl
 
 -- ---- a piece of a script that takes p to q
 
-abbrev pub Takes : List ℕ → Profile → Profile → Type 0
-Takes s p q = (at : ℕ) (rest : List ℕ) → records 0 at (s ++ rest) p ≡ records 0 (at + length s) rest q
+pub record Takes (s : List ℕ) (p q : Profile) : Type 0 where
+  pub on : (at : ℕ) (rest : List ℕ) → records 0 at (s ++ rest) p ≡ records 0 (at + length s) rest q
 
-pub takes-record : (r : List ℕ) (len : ℕ) (p q : Profile) → length r ≡ 4 + len → ((rest : List ℕ) → step (r ++ rest) p ≡ next len q)
+pub takes-record : {r : List ℕ} {p q : Profile} (len : ℕ) → length r ≡ 4 + len → ((rest : List ℕ) → step (r ++ rest) p ≡ next len q)
     → Takes r p q
-takes-record r len p q e s at rest = read-record r rest at len p q e (s rest)
+takes-record {r} {p} {q} len e s = record { on = λ at rest. read-record r rest at len p q e (s rest) }
 
-pub takes-none : (p q : Profile) → p ≡ q → Takes [] p q
-takes-none p q e at rest = rw (e, add-zero)
+pub takes-none : {p q : Profile} → p ≡ q → Takes [] p q
+takes-none e = record { on = λ at rest. rw (e, add-zero) }
 
-pub takes-then : (s t : List ℕ) (p q r : Profile) → Takes s p q → Takes t q r → Takes (s ++ t) p r
-takes-then s t p q r f g at rest =
-    rw append-assoc
-    (f at (t ++ rest) ∙ g (at + length s) rest ∙ ap (λ (m : ℕ). records 0 m rest r) (simp length-append (omega arith)))
+pub takes-then : {s t : List ℕ} {p q r : Profile} → Takes s p q → Takes t q r → Takes (s ++ t) p r
+takes-then {s} {t} {p} {q} {r} f g =
+    record {
+      on =
+          λ at rest.
+          rw append-assoc
+          (f .on at (t ++ rest) ∙ g .on (at + length s) rest ∙ ap (λ (m : ℕ). records 0 m rest r) (simp length-append (omega arith)));
+    }
 
 -- what is written only where b holds
-pub takes-cond : (b : Bool) (s : List ℕ) (p q : Profile) → (b ≡ true → Takes s p q) → (b ≡ false → p ≡ q) → Takes (cond b s []) p q
-takes-cond true s p q f g = f refl
-takes-cond false s p q f g = takes-none p q (g refl)
+pub takes-cond : (b : Bool) {s : List ℕ} {p q : Profile} → (b ≡ true → Takes s p q) → (b ≡ false → p ≡ q) → Takes (cond b s []) p q
+takes-cond true f g = f refl
+takes-cond false f g = takes-none (g refl)
 
 -- chunks, each of which takes the profile from one state to the next
 pub takes-chunks : (n : ℕ) (f : ℕ → List ℕ) (st : ℕ → Profile) → ((i : ℕ) → i < n → Takes (f i) (st i) (st (suc i)))
     → Takes (chunks n f) (st 0) (st n)
 unfolding chunks
-takes-chunks zero f st h = takes-none (st 0) (st 0) refl
-takes-chunks (suc n) f st h =
-    takes-then (chunks n f) (f n) (st 0) (st n) (st (suc n)) (takes-chunks n f st (λ i l. h i (omega arith))) (h n (omega arith))
+takes-chunks zero f st h = takes-none refl
+takes-chunks (suc n) f st h = takes-then (takes-chunks n f st (λ i l. h i (omega arith))) (h n (omega arith))
 
 -- a whole script
 pub takes-all : (s : List ℕ) (p q : Profile) → Takes s p q → records 0 0 s p ≡ readAnswer accepted q
-takes-all s p q f = ap (λ (l : List ℕ). records 0 0 l p) (sym (append-nil s)) ∙ f 0 [] ∙ records-done 0 (0 + length s) q
+takes-all s p q f = ap (λ (l : List ℕ). records 0 0 l p) (sym (append-nil s)) ∙ f .on 0 [] ∙ records-done 0 (0 + length s) q

@@ -1,8 +1,8 @@
 -- Bytes, and little-endian numbers: "all little-endian, all fields 2 bytes except in kind 1".
 -- Assumes nothing.
 use Prim.Native.Nat.{ℕ, _+_, _*_, _/_, _%_, _<_}
-use mathlib.Core.List.{List, [], _∷_}
-use lib.ListN.{getD}
+use mathlib.Core.List.{List, [], _∷_, _++_}
+use lib.ListN.{length, getD}
 
 -- every element is a byte: what the type of a slice says in code, and what a theorem over any list has to ask
 pub record Bytes (s : List ℕ) : Type 0 where
@@ -24,3 +24,7 @@ twoBytes (w ∷ ws) = w % 256 ∷ w / 256 ∷ twoBytes ws
 -- a number as three bytes
 abbrev pub threeBytes : ℕ → List ℕ
 threeBytes v = v % 256 ∷ v / 256 % 256 ∷ v / 65536 % 256 ∷ []
+
+-- "Each record: body length (2 bytes), kind (2 bytes), body"
+abbrev pub recordOf : ℕ → List ℕ → List ℕ
+recordOf kind body = twoBytes (length body ∷ kind ∷ []) ++ body

@@ -7,10 +7,12 @@ use mathlib.Core.Bool.{Bool, cond, _&&_}
 use lib.ListN.{getD}
 use lib.Dec.{ltb, leb, eqb}
 use Rattle.profile.specs.Lists.{sum, lastStart}
-use Rattle.profile.specs.Values.{emptyRegion, emptySequence}
+use Rattle.profile.specs.Values.{emptyRegion, emptySequence, emptyGate, emptyShutter}
 use Rattle.profile.specs.Patterns.{patternOf}
 use Rattle.profile.specs.declared.Region.{Region}
 use Rattle.profile.specs.declared.Sequence.{Sequence}
+use Rattle.profile.specs.declared.Gate.{Gate}
+use Rattle.profile.specs.declared.Shutter.{Shutter}
 use Rattle.profile.specs.declared.Field.{Field}
 use Rattle.profile.specs.declared.Tables.{Tables}
 use Rattle.profile.specs.declared.Pattern.{Pattern}
@@ -42,6 +44,13 @@ regionOf f line = lastStart (firstLine f) (regionCount f) line
 
 abbrev pub sequenceOf : Tables → ℕ → Sequence
 sequenceOf t k = getD (t .sequences) k emptySequence
+
+-- gate k, VSG1 being gate 0, and shutter k: "0 MSHUT, 1 STROBE"
+abbrev pub gateOf : Tables → ℕ → Gate
+gateOf t k = getD (t .gates) k emptyGate
+
+abbrev pub shutterOf : Tables → ℕ → Shutter
+shutterOf t k = getD (t .shutters) k emptyShutter
 
 -- a region's sequence and its pattern
 abbrev pub sequenceAt : Tables → Field → ℕ → Sequence

@@ -3,27 +3,35 @@
 -- the number and the place of the first that does not, is a theorem (proofs/Accepted.antt), so that no rule can be missing from the list of
 -- tests (specs/Rules.antt), and none can have another number, place or turn there.
 -- Assumes nothing.
-use Prim.Native.Nat.{ℕ, _+_, _-_, _*_, _/_, _%_, _≤_, _<_}
+use Prim.Native.Nat.{ℕ, _+_, _-_, _*_, _/_, _%_, _^_, _≤_, _<_}
 use mathlib.Core.Path.{_≡_}
 use mathlib.Core.Logic.{_⊎_}
-use mathlib.Core.Bool.{true, false, cond, _&&_}
+use mathlib.Core.List.{List}
+use mathlib.Core.Bool.{Bool, true, false, cond, _&&_}
 use lib.ListN.{getD}
-use lib.Dec.{leb}
+use lib.Dec.{ltb, leb}
+use Rattle.profile.specs.Lists.{Each}
 use Rattle.profile.specs.Values.{emptyRegion, emptySequence, emptyGate, emptySubck, emptyShutter}
+use Rattle.profile.specs.Patterns.{halfOf, rowOf}
 use Rattle.profile.specs.Geometry.{
   regionCount,
   regionAt,
   firstLine,
   regionOf,
+  sequenceOf,
+  gateOf,
+  shutterOf,
   sequenceAt,
   patternAt,
   lineLength,
   regionSize,
   repetitions,
+  gateLines,
 }
-use Rattle.profile.specs.Rules.{secondOf}
+use Rattle.profile.specs.Rules.{secondOf, fieldsOf}
 use Rattle.profile.specs.declared.Mode.{Mode}
 use Rattle.profile.specs.declared.Mode.the-variants.{Plain, Sweep, Multiplier}
+use Rattle.profile.specs.declared.Region.{Region}
 use Rattle.profile.specs.declared.Sequence.{Sequence}
 use Rattle.profile.specs.declared.Pattern.{Pattern}
 use Rattle.profile.specs.declared.Gate.{Gate}
@@ -74,49 +82,63 @@ pub record ShutterRanged (s : Shutter) : Type 0 where
   pub off-line : s .«off_line» ≤ 4095
   pub off-pixel : s .«off_pixel» ≤ 4095
 
+pub record RegionRanged (r : Region) : Type 0 where
+  pub first : r .first ≤ 4094
+  pub sequence : r .sequence ≤ 9
+
+-- "a number no record can carry, or an absent item (a region past n too) that is not all zeros" is out of range: what holds of an item that is
+-- present, and of one that is absent
+abbrev pub Given : Bool → Type 0 → Type 0 → Type 0
+Given present Carried Empty = (present ≡ true → Carried) × (present ≡ false → Empty)
+
+-- a field and its regions: a region is present where its number is below n
+pub record FieldIn (f : Field) : Type 0 where
+  pub head : Given (f .present) (FieldRanged f)
+      ((f .lines ≡ 0) × (f .last ≡ 0) × (f .gate ≡ 0) × (f .second ≡ 0) × (f .count ≡ 0))
+  pub regions : (i : ℕ) → i < 7 → Given (ltb i (f .count)) (RegionRanged (regionAt f i)) (regionAt f i ≡ emptyRegion)
+
+abbrev pub SequenceIn : Sequence → Type 0
+SequenceIn s = Given (s .present) (SequenceRanged s) (s ≡ emptySequence)
+
+abbrev pub GateIn : Gate → Type 0
+GateIn g = Given (g .present) (GateRanged g) (g ≡ emptyGate)
+
+abbrev pub SubckIn : Subck → Type 0
+SubckIn s = Given (s .present) (SubckRanged s) (s ≡ emptySubck)
+
+abbrev pub ShutterIn : Shutter → Type 0
+ShutterIn s = Given (s .present) (ShutterRanged s) (s ≡ emptyShutter)
+
 pub record Ranged (p : Profile) : Type 0 where
   pub halves : (i : ℕ) → i < 240 → getD (p .tables .registers) i 0 ≤ 4095
-  pub start-levels : (k : ℕ) → k < 10 → getD (p .tables .registers) (24 * k) 0 ≤ 63
-  pub sequences : (i : ℕ) → i < 10 → getD (p .tables .sequences) i emptySequence .present ≡ true
-      → SequenceRanged (getD (p .tables .sequences) i emptySequence)
-  pub no-sequence : (i : ℕ) → i < 10 → getD (p .tables .sequences) i emptySequence .present ≡ false
-      → getD (p .tables .sequences) i emptySequence ≡ emptySequence
-  pub gates : (i : ℕ) → i < 5 → getD (p .tables .gates) i emptyGate .present ≡ true → GateRanged (getD (p .tables .gates) i emptyGate)
-  pub no-gate : (i : ℕ) → i < 5 → getD (p .tables .gates) i emptyGate .present ≡ false → getD (p .tables .gates) i emptyGate ≡ emptyGate
-  pub subck : p .tables .subck .present ≡ true → SubckRanged (p .tables .subck)
-  pub no-subck : p .tables .subck .present ≡ false → p .tables .subck ≡ emptySubck
-  pub shutters : (i : ℕ) → i < 2 → getD (p .tables .shutters) i emptyShutter .present ≡ true
-      → ShutterRanged (getD (p .tables .shutters) i emptyShutter)
-  pub no-shutter : (i : ℕ) → i < 2 → getD (p .tables .shutters) i emptyShutter .present ≡ false
-      → getD (p .tables .shutters) i emptyShutter ≡ emptyShutter
-  pub field : p .field .present ≡ true → FieldRanged (p .field)
-  pub no-field : p .field .present ≡ false
-      → (p .field .lines ≡ 0) × (p .field .last ≡ 0) × (p .field .gate ≡ 0) × (p .field .second ≡ 0) × (p .field .count ≡ 0)
-  pub regions : (i : ℕ) → i < 7 → i < p .field .count → (regionAt (p .field) i .first ≤ 4094) × (regionAt (p .field) i .sequence ≤ 9)
-  pub no-region : (i : ℕ) → i < 7 → p .field .count ≤ i → regionAt (p .field) i ≡ emptyRegion
+  pub start-levels : (k : ℕ) → k < 10 → halfOf (p .tables .registers) k 0 ≤ 63
+  pub sequences : (k : ℕ) → k < 10 → SequenceIn (sequenceOf (p .tables) k)
+  pub gates : (k : ℕ) → k < 5 → GateIn (gateOf (p .tables) k)
+  pub subck : SubckIn (p .tables .subck)
+  pub shutters : (k : ℕ) → k < 2 → ShutterIn (shutterOf (p .tables) k)
+  pub field : FieldIn (p .field)
 
 -- ---- rules
 
--- "plain and sweep: a toggle at or above the pattern length is unused. Multiplier and second pattern: 4095 is unused, and nothing else."
+-- "Multiplier and second pattern: 4095 is unused, and nothing else."
+abbrev pub Not4095 : ℕ → Type 0
+Not4095 x = x ≡ 4095 → ⊥
+
+-- "plain and sweep: a toggle at or above the pattern length is unused"
 abbrev pub Used : Mode → ℕ → ℕ → Type 0
 Used Plain length x = x < length
 Used Sweep length x = x < length
-Used Multiplier length x = x ≡ 4095 → ⊥
+Used Multiplier length x = Not4095 x
 
--- toggle j of output k, each counted from 0
-abbrev pub toggleOf : Pattern → ℕ → ℕ → ℕ
-toggleOf a k j = getD (a .toggles) (3 * k + j) 0
-
--- "For each output, used toggles come first and rise strictly."
-abbrev pub Rises : Mode → Pattern → ℕ → Type 0
-Rises m a k =
-    (i j : ℕ) → i < j → j < 3 → Used m (a .length) (toggleOf a k j)
-    → Used m (a .length) (toggleOf a k i) × (toggleOf a k i < toggleOf a k j)
+-- "For each output, used toggles come first and rise strictly": of one output's three toggles
+abbrev pub Rises : (ℕ → Type 0) → List ℕ → Type 0
+Rises Uses row =
+    (i j : ℕ) → i < j → j < 3 → Uses (getD row j 0) → Uses (getD row i 0) × (getD row i 0 < getD row j 0)
 
 -- "a mask bit turns on its pair. Each pair turned on has freeze below resume; with both, resume 1 is at most freeze 2. A mask is 0 in sweep
 -- and multiplier."
 abbrev pub PairOn : ℕ → ℕ → Type 0
-PairOn mask bit = mask / bit % 2 ≡ 1
+PairOn mask pair = mask / 2 ^ (pair - 1) % 2 ≡ 1
 
 abbrev pub Masks : Mode → ℕ → Pattern → Type 0
 Masks Plain mask a =
@@ -125,10 +147,10 @@ Masks Plain mask a =
 Masks Sweep mask a = mask ≡ 0
 Masks Multiplier mask a = mask ≡ 0
 
--- "the highest used toggle of all six outputs, 0 if none"
+-- "the highest used toggle of all six outputs, 0 if none": toggle j of output k
 pub record Highest (a : Pattern) (h : ℕ) : Type 0 where
-  pub above : (n : ℕ) → n < 18 → Used Multiplier (a .length) (getD (a .toggles) n 0) → getD (a .toggles) n 0 ≤ h
-  pub is : (h ≡ 0) ⊎ ((n : ℕ) × (n < 18) × Used Multiplier (a .length) h × (getD (a .toggles) n 0 ≡ h))
+  pub above : (k j : ℕ) → k < 6 → j < 3 → Not4095 (getD (rowOf (a .toggles) k) j 0) → getD (rowOf (a .toggles) k) j 0 ≤ h
+  pub is : (h ≡ 0) ⊎ ((k : ℕ) × (j : ℕ) × (k < 6) × (j < 3) × Not4095 h × (getD (rowOf (a .toggles) k) j 0 ≡ h))
 
 -- "sweep: both counts are equal. Multiplier: both equal the highest used toggle of all six outputs, 0 if none"
 abbrev pub Counts : Mode → Sequence → Pattern → Type 0
@@ -147,7 +169,7 @@ Ends Multiplier s a size = s .start + s .odd * a .length ≤ size
 pub record Seconds (t : Tables) (f : Field) (a : Pattern) (line : ℕ) : Type 0 where
   pub plain : regionAt f (regionOf f line) .mode ≡ Plain
   pub length : a .length ≡ 0 → ⊥
-  pub toggles : (k : ℕ) → k < 6 → Rises Multiplier a k
+  pub toggles : (k : ℕ) → k < 6 → Rises Not4095 (rowOf (a .toggles) k)
   pub shorter : a .length < lineLength t f line
   pub first-ends : (repetitions (sequenceAt t f (regionOf f line)) line ≡ 0 → ⊥)
       → sequenceAt t f (regionOf f line) .start
@@ -170,9 +192,10 @@ Shuts t f s =
 abbrev pub Starts : Field → ℕ → Type 0
 Starts f i = (firstLine f i < f .lines) × (i ≡ 0 → firstLine f i ≡ 0) × ((i ≡ 0 → ⊥) → firstLine f (i - 1) < firstLine f i)
 
--- 14: "the gate line is below the line count", and the second pattern
+-- 14: "the gate line is below the line count", and the second pattern, on each gate line
 abbrev pub Transfers : Tables → Field → Type 0
-Transfers t f = (f .gate < f .lines) × ((f .second ≡ 65535 → ⊥) → Seconds t f (secondOf t f) (f .gate))
+Transfers t f =
+    Each (λ g. g < f .lines) (gateLines f) × ((f .second ≡ 65535 → ⊥) → Each (Seconds t f (secondOf t f)) (gateLines f))
 
 -- 15: "a gate that is on has toggle 1 below toggle 2 below the gate line's length"
 abbrev pub Pulses : Gate → ℕ → Type 0
@@ -182,28 +205,27 @@ Pulses g length = g .present ≡ true → g .on ≡ 1 → (g .toggle1 < g .toggl
 abbrev pub Suppresses : Subck → Type 0
 Suppresses s = s .present ≡ true → (s .toggle1 < s .toggle2) × (1 ≤ s .suppressed)
 
--- rule n holds at place i: a row a number, with the places that it has and what it says there; no other number and place says anything
-module _ (p : Profile) where
-  abbrev t : Tables
-  t = p .tables
+-- rule n of a field holds at place i: a row a number, with the places that it has and what it says there; no other number and place says
+-- anything
+pub record FieldRule (t : Tables) (f : Field) (n i : ℕ) : Type 0 where
+  pub region-order : n ≡ 7 → i < regionCount f → Starts f i
+  pub sequence-given : n ≡ 8 → i < regionCount f → sequenceAt t f i .present ≡ true
+  pub pattern-length : n ≡ 9 → i < regionCount f → patternAt t f i .length ≡ 0 → ⊥
+  pub toggle-order : n ≡ 10 → i < regionCount f → (k : ℕ) → k < 6
+      → Rises (Used (regionAt f i .mode) (patternAt t f i .length)) (rowOf (patternAt t f i .toggles) k)
+  pub mask : n ≡ 11 → i < regionCount f → Masks (regionAt f i .mode) (sequenceAt t f i .mask) (patternAt t f i)
+  pub repetitions : n ≡ 12 → i < regionCount f → Counts (regionAt f i .mode) (sequenceAt t f i) (patternAt t f i)
+  pub run-ends : n ≡ 13 → i < regionCount f → Ends (regionAt f i .mode) (sequenceAt t f i) (patternAt t f i) (regionSize t f i)
+  pub gate-line : n ≡ 14 → i ≡ 0 → Transfers t f
+  pub gate-pulse : n ≡ 15 → i < 5 → Each (λ g. Pulses (gateOf t i) (lineLength t f g)) (gateLines f)
+  pub subck : n ≡ 16 → i ≡ 0 → Suppresses (t .subck)
+  pub shutter : n ≡ 17 → i < 2 → shutterOf t i .present ≡ true → Shuts t f (shutterOf t i)
 
-  abbrev f : Field
-  f = p .field
-
-  pub record Rule (n i : ℕ) : Type 0 where
-    pub values : n ≡ 5 → i ≡ 0 → Ranged p
-    pub field-given : n ≡ 6 → i ≡ 0 → f .present ≡ true
-    pub region-order : n ≡ 7 → i < regionCount f → Starts f i
-    pub sequence-given : n ≡ 8 → i < regionCount f → sequenceAt t f i .present ≡ true
-    pub pattern-length : n ≡ 9 → i < regionCount f → patternAt t f i .length ≡ 0 → ⊥
-    pub toggle-order : n ≡ 10 → i < regionCount f → (k : ℕ) → k < 6 → Rises (regionAt f i .mode) (patternAt t f i) k
-    pub mask : n ≡ 11 → i < regionCount f → Masks (regionAt f i .mode) (sequenceAt t f i .mask) (patternAt t f i)
-    pub repetitions : n ≡ 12 → i < regionCount f → Counts (regionAt f i .mode) (sequenceAt t f i) (patternAt t f i)
-    pub run-ends : n ≡ 13 → i < regionCount f → Ends (regionAt f i .mode) (sequenceAt t f i) (patternAt t f i) (regionSize t f i)
-    pub gate-line : n ≡ 14 → i ≡ 0 → Transfers t f
-    pub gate-pulse : n ≡ 15 → i < 5 → Pulses (getD (t .gates) i emptyGate) (lineLength t f (f .gate))
-    pub subck : n ≡ 16 → i ≡ 0 → Suppresses (t .subck)
-    pub shutter : n ≡ 17 → i < 2 → getD (t .shutters) i emptyShutter .present ≡ true → Shuts t f (getD (t .shutters) i emptyShutter)
+-- rule n of a profile holds at place i
+pub record Rule (p : Profile) (n i : ℕ) : Type 0 where
+  pub values : n ≡ 5 → i ≡ 0 → Ranged p
+  pub field-given : n ≡ 6 → i ≡ 0 → Each (λ f. f .present ≡ true) (fieldsOf p)
+  pub fields : Each (λ f. FieldRule (p .tables) f n i) (fieldsOf p)
 
 -- "then 6; then 7 for all regions; then, region by region, 8 to 13; then 14; 15 by gate; 16; 17 (MSHUT first)": by turn, then by place, then
 -- by number, where 8 to 13 have one turn

@@ -1,8 +1,8 @@
--- A pattern out of the half registers, which of its toggles are used, their order, and the highest of them.
+-- A pattern out of the half registers, which of its toggles are used by mode, their order, and the highest of them.
 -- Assumes nothing.
 use Prim.Native.Nat.{ℕ, zero, suc, _+_, _*_, max}
 use mathlib.Core.List.{List, [], _∷_}
-use mathlib.Core.Bool.{Bool, cond, not, _&&_, _||_}
+use mathlib.Core.Bool.{Bool, true, false, cond, not, _&&_, _||_}
 use lib.ListN.{getD}
 use lib.Dec.{ltb, eqb}
 use Rattle.profile.specs.declared.Mode.{Mode}
@@ -32,38 +32,48 @@ patternFrom half =
 unfoldable pub patternOf : List ℕ → ℕ → Pattern
 patternOf registers k = patternFrom (halfOf registers k)
 
--- "A pattern is six outputs of three toggles each": the toggles of output k, V1 being output 0
-abbrev pub threeAt : List ℕ → ℕ → List ℕ
-threeAt toggles at = getD toggles at 0 ∷ getD toggles (at + 1) 0 ∷ getD toggles (at + 2) 0 ∷ []
-
-abbrev pub rowOf : Pattern → ℕ → List ℕ
-rowOf a k = threeAt (a .toggles) (3 * k)
+-- "A pattern is six outputs of three toggles each": the three toggles of output k, V1 being output 0
+abbrev pub rowOf : List ℕ → ℕ → List ℕ
+rowOf toggles k = getD toggles (3 * k) 0 ∷ getD toggles (3 * k + 1) 0 ∷ getD toggles (3 * k + 2) 0 ∷ []
 
 -- all six
 abbrev pub rowsOf : List ℕ → List (List ℕ)
 rowsOf toggles =
-    threeAt toggles 0 ∷ threeAt toggles 3 ∷ threeAt toggles 6 ∷ threeAt toggles 9 ∷ threeAt toggles 12 ∷ threeAt toggles 15 ∷ []
+    rowOf toggles 0 ∷ rowOf toggles 1 ∷ rowOf toggles 2 ∷ rowOf toggles 3 ∷ rowOf toggles 4 ∷ rowOf toggles 5 ∷ []
 
--- "plain and sweep: a toggle at or above the pattern length is unused. Multiplier and second pattern: 4095 is unused, and nothing else."
--- A second pattern's toggles are used as those of multiplier are.
+abbrev pub isPlain : Mode → Bool
+isPlain Plain = true
+isPlain Sweep = false
+isPlain Multiplier = false
+
+-- "Multiplier and second pattern: 4095 is unused, and nothing else."
+abbrev pub not4095 : ℕ → Bool
+not4095 x = not (eqb x 4095)
+
+-- "plain and sweep: a toggle at or above the pattern length is unused"
 abbrev pub used : Mode → ℕ → ℕ → Bool
 used Plain length x = ltb x length
 used Sweep length x = ltb x length
-used Multiplier length x = not (eqb x 4095)
+used Multiplier length x = not4095 x
 
 -- toggle y may follow toggle x: it is unused, or both are used and rise
-abbrev pub follows : Mode → ℕ → ℕ → ℕ → Bool
-follows m length x y = not (used m length y) || used m length x && ltb x y
+abbrev pub follows : (ℕ → Bool) → ℕ → ℕ → Bool
+follows uses x y = not (uses y) || uses x && ltb x y
 
 -- "For each output, used toggles come first and rise strictly": 0, or the first used toggle out of order, 2 or 3
-unfoldable pub toggleFault : Mode → ℕ → List ℕ → ℕ
-toggleFault m length row =
-    cond (follows m length (getD row 0 0) (getD row 1 0))
-    (cond (follows m length (getD row 1 0) (getD row 2 0)) 0 3)
-    2
+unfoldable pub toggleFault : (ℕ → Bool) → List ℕ → ℕ
+toggleFault uses row =
+    cond (follows uses (getD row 0 0) (getD row 1 0)) (cond (follows uses (getD row 1 0) (getD row 2 0)) 0 3) 2
 
--- the highest used toggle of the first n, 0 if none, as multiplier uses them
-unfoldable pub highestUsed : List ℕ → ℕ → ℕ
-highestUsed toggles zero = 0
-highestUsed toggles (suc n) =
-    max (highestUsed toggles n) (cond (used Multiplier 0 (getD toggles n 0)) (getD toggles n 0) 0)
+-- a toggle that multiplier uses; an unused one counts as 0
+abbrev pub usedOr0 : ℕ → ℕ
+usedOr0 x = cond (not4095 x) x 0
+
+-- the highest used toggle of an output, 0 if none
+abbrev pub highestIn : List ℕ → ℕ
+highestIn row = max (max (usedOr0 (getD row 0 0)) (usedOr0 (getD row 1 0))) (usedOr0 (getD row 2 0))
+
+-- the highest used toggle of the first n outputs, 0 if none
+unfoldable pub highestUsed : (ℕ → List ℕ) → ℕ → ℕ
+highestUsed row zero = 0
+highestUsed row (suc n) = max (highestUsed row n) (highestIn (row n))

@@ -6,7 +6,8 @@ use mathlib.Core.Bool.{Bool, cond, _&&_, _||_}
 use lib.ListN.{getD}
 use lib.Dec.{ltb, leb, eqb}
 use Rattle.profile.specs.Lists.{all, chunks}
-use Rattle.profile.specs.Values.{modeNumber, emptySequence, emptyGate, emptyShutter}
+use Rattle.profile.specs.Values.{emptySequence, emptyGate, emptyShutter}
+use Rattle.profile.specs.Patterns.{isPlain}
 use Rattle.profile.specs.Geometry.{regionAt}
 use Rattle.profile.specs.declared.Region.{Region}
 use Rattle.profile.specs.declared.Sequence.{Sequence}
@@ -73,39 +74,43 @@ shutterRange s =
     ∷ leb (s .«off_pixel») 4095
     ∷ []
 
--- "a number no record can carry, or an absent item (a region past n too) that is not all zeros"
+-- "all zeros"
 abbrev pub zeros : List ℕ → List Bool
 zeros l = map (λ (x : ℕ). eqb x 0) l
 
+-- "a number no record can carry, or an absent item (a region past n too) that is not all zeros": an item's ranges where it is present, its
+-- zeros where it is absent
+abbrev pub itemIn : Bool → List Bool → List Bool → Bool
+itemIn present range empty = cond present (all range) (all empty)
+
 unfoldable pub sequenceIn : Sequence → Bool
 sequenceIn s =
-    cond (s .present) (all (sequenceRange s))
-    (all (zeros (s .pattern ∷ s .length ∷ s .start ∷ s .odd ∷ s .even ∷ s .mask ∷ [])))
-
-unfoldable pub regionIn : Field → ℕ → Bool
-regionIn f i =
-    cond (ltb i (f .count)) (all (regionRange (regionAt f i)))
-    (all (zeros (regionAt f i .first ∷ regionAt f i .sequence ∷ modeNumber (regionAt f i .mode) ∷ [])))
-
-unfoldable pub fieldIn : Field → Bool
-fieldIn f =
-    cond (f .present) (all (fieldRange f))
-    (all (zeros (f .lines ∷ f .last ∷ f .gate ∷ f .second ∷ f .count ∷ [])))
+    itemIn (s .present) (sequenceRange s)
+    (zeros (s .pattern ∷ s .length ∷ s .start ∷ s .odd ∷ s .even ∷ s .mask ∷ []))
 
 unfoldable pub gateIn : Gate → Bool
-gateIn g =
-    cond (g .present) (all (gateRange g))
-    (all (zeros (g .on ∷ g .level ∷ g .toggle1 ∷ g .toggle2 ∷ [])))
+gateIn g = itemIn (g .present) (gateRange g) (zeros (g .on ∷ g .level ∷ g .toggle1 ∷ g .toggle2 ∷ []))
 
 unfoldable pub subckIn : Subck → Bool
 subckIn s =
-    cond (s .present) (all (subckRange s))
-    (all (zeros (s .level ∷ s .toggle1 ∷ s .toggle2 ∷ s .suppressed ∷ s .count ∷ [])))
+    itemIn (s .present) (subckRange s)
+    (zeros (s .level ∷ s .toggle1 ∷ s .toggle2 ∷ s .suppressed ∷ s .count ∷ []))
 
 unfoldable pub shutterIn : Shutter → Bool
 shutterIn s =
-    cond (s .present) (all (shutterRange s))
-    (all (zeros (s .active ∷ s .«on_line» ∷ s .«on_pixel» ∷ s .«off_line» ∷ s .«off_pixel» ∷ [])))
+    itemIn (s .present) (shutterRange s)
+    (zeros (s .active ∷ s .«on_line» ∷ s .«on_pixel» ∷ s .«off_line» ∷ s .«off_pixel» ∷ []))
+
+-- a region is present where its number is below n; mode 0 is plain
+unfoldable pub regionIn : Field → ℕ → Bool
+regionIn f i =
+    itemIn (ltb i (f .count)) (regionRange (regionAt f i))
+    (isPlain (regionAt f i .mode) ∷ zeros (regionAt f i .first ∷ regionAt f i .sequence ∷ []))
+
+-- a field's numbers before its regions
+unfoldable pub headIn : Field → Bool
+headIn f =
+    itemIn (f .present) (fieldRange f) (zeros (f .lines ∷ f .last ∷ f .gate ∷ f .second ∷ f .count ∷ []))
 
 -- the tests of each array's items
 abbrev pub halfTests : List ℕ → ℕ → List Bool
@@ -114,14 +119,18 @@ halfTests registers i = leb (getD registers i 0) (halfLimit i) ∷ []
 abbrev pub sequenceTests : List Sequence → ℕ → List Bool
 sequenceTests ss i = sequenceIn (getD ss i emptySequence) ∷ []
 
-abbrev pub regionTests : Field → ℕ → List Bool
-regionTests f i = regionIn f i ∷ []
-
 abbrev pub gateTests : List Gate → ℕ → List Bool
 gateTests gs i = gateIn (getD gs i emptyGate) ∷ []
 
 abbrev pub shutterTests : List Shutter → ℕ → List Bool
 shutterTests ss i = shutterIn (getD ss i emptyShutter) ∷ []
+
+abbrev pub regionTests : Field → ℕ → List Bool
+regionTests f i = regionIn f i ∷ []
+
+-- a field and its regions
+abbrev pub fieldIn : Field → Bool
+fieldIn f = headIn f && all (chunks 7 (regionTests f))
 
 -- "A profile handed in directly is held to the same ranges first"
 unfoldable pub inRange : Profile → Bool
@@ -132,4 +141,3 @@ inRange p =
     && subckIn (p .tables .subck)
     && all (chunks 2 (shutterTests (p .tables .shutters)))
     && fieldIn (p .field)
-    && all (chunks 7 (regionTests (p .field)))

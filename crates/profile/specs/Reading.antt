@@ -1,4 +1,5 @@
--- The answers of the reader in code, by the definitions of reading: a body's values, regions, the record at an offset, and one step.
+-- Nobody has to believe this file: it names the answers of the reader's parts in code by the definitions of Script, and proofs/Readers.antt,
+-- proofs/Takes.antt and proofs/OneRecord.antt show that they are the same.
 -- Assumes nothing.
 use Prim.Native.Nat.{ℕ, _+_, _-_}
 use mathlib.Core.List.{List, _++_}
@@ -7,7 +8,7 @@ use lib.ListN.{length, drop, replicate}
 use lib.Dec.{ltb}
 use Rattle.profile.specs.Lists.{all, chunks}
 use Rattle.profile.specs.Bytes.{numberAt}
-use Rattle.profile.specs.Values.{emptyRegion}
+use Rattle.profile.specs.Values.{emptyRegion, setTables, setField}
 use Rattle.profile.specs.Script.{
   registerFits,
   withRegister,
@@ -26,13 +27,12 @@ use Rattle.profile.specs.Script.{
   withShutter,
   known,
   allowed,
-  Step,
+  Stepped,
   step,
   stop,
   next,
 }
 use Rattle.profile.specs.declared.Field.{Field}
-use Rattle.profile.specs.declared.Tables.{Tables}
 use Rattle.profile.specs.declared.Profile.{Profile}
 use Rattle.profile.specs.declared.records.BodyAnswer.{BodyAnswer}
 use Rattle.profile.specs.declared.records.RegionAnswer.{RegionAnswer}
@@ -40,34 +40,27 @@ use Rattle.profile.specs.declared.records.RegionsAnswer.{RegionsAnswer}
 use Rattle.profile.specs.declared.records.Found.{Found}
 use Rattle.profile.specs.declared.records.RecordAnswer.{RecordAnswer}
 
--- a profile with other tables, with another field
-abbrev pub inTables : Tables → Profile → Profile
-inTables t p = record { tables = t; field = p .field }
-
-abbrev pub inField : Field → Profile → Profile
-inField f p = record { tables = p .tables; field = f }
-
 -- whether a body's values fit, and the profile with its item where they do
 abbrev pub bodyAnswer : Bool → Profile → Profile → BodyAnswer
 bodyAnswer fits new old = record { fits = fits; profile = cond fits new old }
 
 abbrev pub registerAnswer : List ℕ → Profile → BodyAnswer
-registerAnswer b p = bodyAnswer (registerFits b) (inTables (withRegister b (p .tables)) p) p
+registerAnswer b p = bodyAnswer (registerFits b) (setTables (withRegister b (p .tables)) p) p
 
 abbrev pub sequenceAnswer : List ℕ → Profile → BodyAnswer
-sequenceAnswer b p = bodyAnswer (sequenceFits b) (inTables (withSequence b (p .tables)) p) p
+sequenceAnswer b p = bodyAnswer (sequenceFits b) (setTables (withSequence b (p .tables)) p) p
 
 abbrev pub fieldAnswer : List ℕ → Profile → BodyAnswer
-fieldAnswer b p = bodyAnswer (fieldFits b) (inField (fieldFrom b) p) p
+fieldAnswer b p = bodyAnswer (fieldFits b) (setField (fieldFrom b) p) p
 
 abbrev pub gateAnswer : List ℕ → Profile → BodyAnswer
-gateAnswer b p = bodyAnswer (gateFits b) (inTables (withGate b (p .tables)) p) p
+gateAnswer b p = bodyAnswer (gateFits b) (setTables (withGate b (p .tables)) p) p
 
 abbrev pub subckAnswer : List ℕ → Profile → BodyAnswer
-subckAnswer b p = bodyAnswer (subckFits b) (inTables (withSubck b (p .tables)) p) p
+subckAnswer b p = bodyAnswer (subckFits b) (setTables (withSubck b (p .tables)) p) p
 
 abbrev pub shutterAnswer : List ℕ → Profile → BodyAnswer
-shutterAnswer b p = bodyAnswer (shutterFits b) (inTables (withShutter b (p .tables)) p) p
+shutterAnswer b p = bodyAnswer (shutterFits b) (setTables (withShutter b (p .tables)) p) p
 
 -- the numbers of a field's body before its regions
 abbrev pub headFrom : List ℕ → Field
@@ -107,7 +100,7 @@ abbrev pub foundAt : List ℕ → ℕ → Found
 foundAt s at = foundFront at (drop at s)
 
 -- what a step at an offset leaves: 0 or the number of its refusal, the offset of the next record, the profile
-abbrev pub stepAnswer : ℕ → Profile → Step → RecordAnswer
+abbrev pub stepAnswer : ℕ → Profile → Stepped → RecordAnswer
 stepAnswer at p (stop n) = record { number = n; next = at; profile = p }
 stepAnswer at p (next len q) = record { number = 0; next = at + (4 + len); profile = q }
 

@@ -7,34 +7,50 @@ use mathlib.Core.Path.{_≡_}
 use mathlib.Core.List.{List, [], _∷_, _++_}
 use lib.ListN.{length, getD}
 use Rattle.profile.specs.Lists.{Each}
-use Rattle.profile.specs.Bytes.{numberAt, dataAt, twoBytes}
+use Rattle.profile.specs.Bytes.{numberAt, dataAt, recordOf}
 use Rattle.profile.specs.Values.{emptySequence, emptyGate, emptyShutter, emptyProfile, accepted, refused}
 use Rattle.profile.specs.Obeys.{SequenceRanged, FieldRanged, GateRanged, SubckRanged, ShutterRanged, Rule, FirstBroken}
-use Rattle.profile.specs.Script.{sequenceFrom, fieldFrom, gateFrom, subckFrom, shutterFrom, byKind, put, bodyOf}
+use Rattle.profile.specs.Script.{
+  kinds,
+  headLength,
+  regionLength,
+  mostBytes,
+  sequenceFrom,
+  regionStart,
+  fieldFrom,
+  gateFrom,
+  subckFrom,
+  shutterFrom,
+  byKind,
+  withRecord,
+  bodyOf,
+}
 use Rattle.profile.specs.declared.Profile.{Profile}
 use Rattle.profile.specs.declared.ReadAnswer.{ReadAnswer}
 
 -- the kinds, and the body lengths of each
 abbrev pub Known : ℕ → Type 0
-Known kind = (1 ≤ kind) × (kind ≤ 6)
+Known kind = (1 ≤ kind) × (kind ≤ kinds)
 
 pub data Allowed : ℕ → ℕ → Type 0 where
   register-4 : Allowed 1 4
   sequence-14 : Allowed 2 14
-  field-6n : (n : ℕ) → 1 ≤ n → n ≤ 7 → Allowed 3 (10 + 6 * n)
+  field-6n : (n : ℕ) → 1 ≤ n → n ≤ 7 → Allowed 3 (headLength + regionLength * n)
   gate-10 : Allowed 4 10
   subck-10 : Allowed 5 10
   shutter-12 : Allowed 6 12
 
 -- region i of a field's body: "first line 0..4094, sequence 0..9, mode 0 plain, 1 sweep, 2 multiplier"
 abbrev pub RegionFits : List ℕ → ℕ → Type 0
-RegionFits b i = (numberAt b (10 + 6 * i) ≤ 4094) × (numberAt b (12 + 6 * i) ≤ 9) × (numberAt b (14 + 6 * i) ≤ 2)
+RegionFits b i =
+    (numberAt b (regionStart i) ≤ 4094) × (numberAt b (regionStart i + 2) ≤ 9) × (numberAt b (regionStart i + 4) ≤ 2)
 
 -- the values that a body of each kind can have
 pub data Fits (b : List ℕ) : ℕ → Type 0 where
   register-fits : getD b 0 0 ≤ 0x77 → (getD b 0 0 % 12 ≡ 0 → dataAt b 1 / 64 % 64 ≡ 0) → Fits b 1
   sequence-fits : numberAt b 0 ≤ 9 → SequenceRanged (sequenceFrom b) → Fits b 2
-  field-fits : 10 + 6 * numberAt b 8 ≡ length b → FieldRanged (fieldFrom b) → ((i : ℕ) → i < numberAt b 8 → RegionFits b i) → Fits b 3
+  field-fits : headLength + regionLength * numberAt b 8 ≡ length b → FieldRanged (fieldFrom b)
+      → ((i : ℕ) → i < numberAt b 8 → RegionFits b i) → Fits b 3
   gate-fits : numberAt b 0 ≤ 4 → GateRanged (gateFrom b) → Fits b 4
   subck-fits : SubckRanged (subckFrom b) → Fits b 5
   shutter-fits : numberAt b 0 ≤ 1 → ShutterRanged (shutterFrom b) → Fits b 6
@@ -46,21 +62,20 @@ pub record Record : Type 0 where
   pub allowed : Allowed kind (length body)
   pub fits : Fits body kind
 
--- "Each record: body length (2 bytes), kind (2 bytes), body; all little-endian"
 abbrev pub bytesOf : Record → List ℕ
-bytesOf r = twoBytes (length (r .body) ∷ r .kind ∷ []) ++ r .body
+bytesOf r = recordOf (r .kind) (r .body)
 
 abbrev pub scriptOf : List Record → List ℕ
 scriptOf [] = []
 scriptOf (r ∷ rs) = bytesOf r ++ scriptOf rs
 
 -- "A later record for the same item replaces the earlier": each is put into the profile, in order
-abbrev pub putAll : List Record → Profile → Profile
-putAll [] p = p
-putAll (r ∷ rs) p = putAll rs (put (r .kind) (r .body) p)
+abbrev pub withRecords : List Record → Profile → Profile
+withRecords [] p = p
+withRecords (r ∷ rs) p = withRecords rs (withRecord (r .kind) (r .body) p)
 
 abbrev pub profileOf : List Record → Profile
-profileOf rs = putAll rs emptyProfile
+profileOf rs = withRecords rs emptyProfile
 
 -- the items that records are for; a register by its address, the others by their number
 pub data Item : Type 0 where
@@ -110,8 +125,8 @@ taken p = record { verdict = accepted; profile = p }
 
 -- what reading script s answers: "1; then record by record ..; then 6" and on, by the first broken rule of the profile that its records give
 pub data Reads (s : List ℕ) : ReadAnswer → Type 0 where
-  too-long : 16384 < length s → Reads s (unread 1 0)
-  stopped : (rs : List Record) (rest : List ℕ) (n : ℕ) → length s ≤ 16384 → s ≡ scriptOf rs ++ rest → Fault rest n
+  too-long : mostBytes < length s → Reads s (unread 1 0)
+  stopped : (rs : List Record) (rest : List ℕ) (n : ℕ) → length s ≤ mostBytes → s ≡ scriptOf rs ++ rest → Fault rest n
       → Reads s (unread n (length (scriptOf rs)))
-  broken : (rs : List Record) (n i : ℕ) → length s ≤ 16384 → s ≡ scriptOf rs → FirstBroken (profileOf rs) n i → Reads s (unread n i)
-  obeyed : (rs : List Record) → length s ≤ 16384 → s ≡ scriptOf rs → ((n i : ℕ) → Rule (profileOf rs) n i) → Reads s (taken (profileOf rs))
+  broken : (rs : List Record) (n i : ℕ) → length s ≤ mostBytes → s ≡ scriptOf rs → FirstBroken (profileOf rs) n i → Reads s (unread n i)
+  obeyed : (rs : List Record) → length s ≤ mostBytes → s ≡ scriptOf rs → ((n i : ℕ) → Rule (profileOf rs) n i) → Reads s (taken (profileOf rs))

@@ -1,18 +1,19 @@
 -- The rules over a profile as one ordered list of entries, and the first that does not hold.
 -- Assumes nothing.
-use Prim.Native.Nat.{ℕ, _+_, _-_, _*_, _/_, _%_}
-use mathlib.Core.List.{List, [], _∷_, _++_, map}
-use mathlib.Core.Bool.{Bool, true, false, cond, not, _&&_, _||_}
-use lib.ListN.{getD}
+use Prim.Native.Nat.{ℕ, _+_, _-_, _*_, _/_, _%_, _^_}
+use mathlib.Core.List.{List, [], _∷_, _++_, map, flatMap}
+use mathlib.Core.Bool.{Bool, true, cond, not, _&&_, _||_}
 use lib.Dec.{ltb, leb, eqb}
 use Rattle.profile.specs.Lists.{all, chunks}
-use Rattle.profile.specs.Values.{accepted, refused, emptyGate, emptyShutter}
-use Rattle.profile.specs.Patterns.{patternOf, rowOf, toggleFault, highestUsed}
+use Rattle.profile.specs.Values.{accepted, refused}
+use Rattle.profile.specs.Patterns.{patternOf, rowOf, isPlain, not4095, used, toggleFault, highestUsed}
 use Rattle.profile.specs.Geometry.{
   regionCount,
   regionAt,
   firstLine,
   regionOf,
+  gateOf,
+  shutterOf,
   sequenceAt,
   patternAt,
   lineLength,
@@ -53,13 +54,13 @@ startsRight f i =
     ltb (firstLine f i) (f .lines)
     && cond (eqb i 0) (eqb (firstLine f i) 0) (ltb (firstLine f (i - 1)) (firstLine f i))
 
--- 10: the toggles of output k of a pattern
-unfoldable pub togglesRight : Mode → Pattern → ℕ → Bool
-togglesRight m a k = eqb (toggleFault m (a .length) (rowOf a k)) 0
+-- 10: the toggles of one output
+unfoldable pub rowRight : (ℕ → Bool) → List ℕ → Bool
+rowRight uses row = eqb (toggleFault uses row) 0
 
 -- 11: "a mask bit turns on its pair (bit 0 pair 1, bit 1 pair 2) of the region's pattern"
 abbrev pub pairOn : ℕ → ℕ → Bool
-pairOn mask bit = eqb (mask / bit % 2) 1
+pairOn mask pair = eqb (mask / 2 ^ (pair - 1) % 2) 1
 
 -- 11, plain: "Each pair turned on has freeze below resume; with both, resume 1 is at most freeze 2."
 unfoldable pub pairsRight : ℕ → Pattern → Bool
@@ -78,18 +79,14 @@ maskRight Multiplier mask a = eqb mask 0
 unfoldable pub countsRight : Mode → Sequence → Pattern → Bool
 countsRight Plain s a = true
 countsRight Sweep s a = eqb (s .odd) (s .even)
-countsRight Multiplier s a = eqb (s .odd) (highestUsed (a .toggles) 18) && eqb (s .even) (highestUsed (a .toggles) 18)
+countsRight Multiplier s a =
+    eqb (s .odd) (highestUsed (rowOf (a .toggles)) 6) && eqb (s .even) (highestUsed (rowOf (a .toggles)) 6)
 
 -- 13: "sweep and multiplier: start + repetitions × length is at most the region's size"
 unfoldable pub endsRight : Mode → Sequence → Pattern → ℕ → Bool
 endsRight Plain s a size = true
 endsRight Sweep s a size = leb (s .start + s .odd * a .length) size
 endsRight Multiplier s a size = leb (s .start + s .odd * a .length) size
-
-abbrev pub isPlain : Mode → Bool
-isPlain Plain = true
-isPlain Sweep = false
-isPlain Multiplier = false
 
 -- 14: "if that line's repetitions r are not 0, start + r × first length is at most the second's length"
 abbrev pub firstEnds : Sequence → ℕ → ℕ → ℕ → Bool
@@ -102,7 +99,7 @@ unfoldable pub secondRight : Tables → Field → Pattern → ℕ → Bool
 secondRight t f a g =
     isPlain (regionAt f (regionOf f g) .mode)
     && not (eqb (a .length) 0)
-    && all (chunks 6 (λ k. togglesRight Multiplier a k ∷ []))
+    && all (chunks 6 (λ k. rowRight not4095 (rowOf (a .toggles) k) ∷ []))
     && ltb (a .length) (lineLength t f g)
     && firstEnds (sequenceAt t f (regionOf f g)) g (patternAt t f (regionOf f g) .length) (a .length)
 
@@ -142,7 +139,7 @@ orderEntries f i = rule 7 i (startsRight f i) ∷ []
 
 -- 10 of region i, an entry an output
 abbrev pub toggleEntries : ℕ → Mode → Pattern → ℕ → List Entry
-toggleEntries i m a k = rule 10 i (togglesRight m a k) ∷ []
+toggleEntries i m a k = rule 10 i (rowRight (used m (a .length)) (rowOf (a .toggles) k)) ∷ []
 
 -- 11 to 13 of region i
 abbrev pub runEntries : ℕ → Mode → Sequence → Pattern → ℕ → List Entry
@@ -171,15 +168,16 @@ lineEntries t f =
 -- "15 by gate", on every gate line
 abbrev pub gateEntries : Tables → Field → ℕ → List Entry
 gateEntries t f k =
-    rule 15 k (all (map (λ (g : ℕ). gateRight (getD (t .gates) k emptyGate) (lineLength t f g)) (gateLines f))) ∷ []
+    rule 15 k (all (map (λ (g : ℕ). gateRight (gateOf t k) (lineLength t f g)) (gateLines f))) ∷ []
 
 abbrev pub subckEntries : Tables → List Entry
 subckEntries t = rule 16 0 (subckRight (t .subck)) ∷ []
 
 -- "17 (MSHUT first)"
 abbrev pub shutterEntries : Tables → Field → ℕ → List Entry
-shutterEntries t f k = rule 17 k (shutterRight t f (getD (t .shutters) k emptyShutter)) ∷ []
+shutterEntries t f k = rule 17 k (shutterRight t f (shutterOf t k)) ∷ []
 
+-- 7 to 17 of a field
 unfoldable pub rulesOf : Tables → Field → List Entry
 rulesOf t f =
     chunks (regionCount f) (orderEntries f)
@@ -189,9 +187,17 @@ rulesOf t f =
     ++ subckEntries t
     ++ chunks 2 (shutterEntries t f)
 
--- "then 6; then 7 ..": what is judged of a profile whose numbers are in range
+-- the fields of a frame's places: there is one place
+abbrev pub fieldsOf : Profile → List Field
+fieldsOf p = p .field ∷ []
+
+-- "then 6", for each place; then 7 to 17 of each place's field
+unfoldable pub entriesOf : Profile → List Entry
+entriesOf p = map (λ (f : Field). rule 6 0 (f .present)) (fieldsOf p) ++ flatMap (rulesOf (p .tables)) (fieldsOf p)
+
+-- what is judged of a profile whose numbers are in range
 unfoldable pub judge : Profile → Verdict
-judge p = cond (p .field .present) (firstBroken (rulesOf (p .tables) (p .field))) (refused 6 0)
+judge p = firstBroken (entriesOf p)
 
 -- a profile handed in: 5, then 6 to 17
 unfoldable pub checkProfile : Profile → Verdict

@@ -7,7 +7,22 @@ use lib.ListN.{length, getD, take, drop, set, replicate}
 use lib.Dec.{ltb, leb, eqb}
 use Rattle.profile.specs.Lists.{all, chunks}
 use Rattle.profile.specs.Bytes.{numberAt, dataAt}
-use Rattle.profile.specs.Values.{modeOf, emptyRegion, emptyProfile, accepted, refused, accepts, readAnswer}
+use Rattle.profile.specs.Values.{
+  modeOf,
+  emptyRegion,
+  emptyProfile,
+  setRegisters,
+  setSequences,
+  setGates,
+  setSubck,
+  setShutters,
+  setTables,
+  setField,
+  accepted,
+  refused,
+  accepts,
+  readAnswer,
+}
 use Rattle.profile.specs.Ranges.{sequenceRange, fieldRange, regionRange, gateRange, subckRange, shutterRange}
 use Rattle.profile.specs.Rules.{judge}
 use Rattle.profile.specs.declared.Region.{Region}
@@ -20,6 +35,21 @@ use Rattle.profile.specs.declared.Tables.{Tables}
 use Rattle.profile.specs.declared.Profile.{Profile}
 use Rattle.profile.specs.declared.ReadAnswer.{ReadAnswer}
 
+-- the kinds are 1 to 6
+abbrev pub kinds : ℕ
+kinds = 6
+
+-- "Kind 3, field, 10 + 6n bytes": the numbers before the regions, and each region
+abbrev pub headLength : ℕ
+headLength = 10
+
+abbrev pub regionLength : ℕ
+regionLength = 6
+
+-- "script over 16,384 bytes" is refusal 1
+abbrev pub mostBytes : ℕ
+mostBytes = 16384
+
 -- Kind 1, register: "address byte, 3 data bytes. Address 0x00 to 0x77"; of a pattern's word 0 "bits 6..11 must be 0 (else 5)"
 unfoldable pub registerFits : List ℕ → Bool
 registerFits b = all (leb (getD b 0 0) 0x77 ∷ (not (eqb (getD b 0 0 % 12) 0) || eqb (dataAt b 1 / 64 % 64) 0) ∷ [])
@@ -27,13 +57,7 @@ registerFits b = all (leb (getD b 0 0) 0x77 ∷ (not (eqb (getD b 0 0 % 12) 0) |
 -- "low half (bits 0..11) then high half (bits 12..23)"
 abbrev pub withRegister : List ℕ → Tables → Tables
 withRegister b t =
-    record {
-      registers = set (set (t .registers) (2 * getD b 0 0) (dataAt b 1 % 4096)) (2 * getD b 0 0 + 1) (dataAt b 1 / 4096);
-      sequences = t .sequences;
-      gates = t .gates;
-      subck = t .subck;
-      shutters = t .shutters;
-    }
+    setRegisters (set (set (t .registers) (2 * getD b 0 0) (dataAt b 1 % 4096)) (2 * getD b 0 0 + 1) (dataAt b 1 / 4096)) t
 
 -- Kind 2, sequence: "number 0..9, pattern, line length, start, odd repetitions, even repetitions, mask"
 abbrev pub sequenceFrom : List ℕ → Sequence
@@ -52,22 +76,20 @@ unfoldable pub sequenceFits : List ℕ → Bool
 sequenceFits b = all (leb (numberAt b 0) 9 ∷ sequenceRange (sequenceFrom b))
 
 abbrev pub withSequence : List ℕ → Tables → Tables
-withSequence b t =
-    record {
-      registers = t .registers;
-      sequences = set (t .sequences) (numberAt b 0) (sequenceFrom b);
-      gates = t .gates;
-      subck = t .subck;
-      shutters = t .shutters;
-    }
+withSequence b t = setSequences (set (t .sequences) (numberAt b 0) (sequenceFrom b)) t
 
 -- Kind 3, field: "lines, last-line length, gate line, second pattern, n, then n regions: first line, sequence, mode"
+
+-- where region i stands in the body: after the head and the i regions before it
+abbrev pub regionStart : ℕ → ℕ
+regionStart i = headLength + regionLength * i
+
 abbrev pub regionFrom : List ℕ → ℕ → Region
 regionFrom b i =
     record {
-      first = numberAt b (10 + 6 * i);
-      sequence = numberAt b (12 + 6 * i);
-      mode = modeOf (numberAt b (14 + 6 * i));
+      first = numberAt b (regionStart i);
+      sequence = numberAt b (regionStart i + 2);
+      mode = modeOf (numberAt b (regionStart i + 4));
     }
 
 abbrev pub regionsFrom : List ℕ → ℕ → List Region
@@ -87,12 +109,12 @@ fieldFrom b =
 
 -- the tests of region i of a body
 abbrev pub regionFits : List ℕ → ℕ → List Bool
-regionFits b i = leb (numberAt b (14 + 6 * i)) 2 ∷ regionRange (regionFrom b i)
+regionFits b i = leb (numberAt b (regionStart i + 4)) 2 ∷ regionRange (regionFrom b i)
 
 -- "An n that disagrees with the length is refusal 5."
 unfoldable pub fieldFits : List ℕ → Bool
 fieldFits b =
-    all (eqb (10 + 6 * numberAt b 8) (length b) ∷ fieldRange (fieldFrom b))
+    all (eqb (headLength + regionLength * numberAt b 8) (length b) ∷ fieldRange (fieldFrom b))
     && all (chunks (numberAt b 8) (regionFits b))
 
 -- Kind 4, gate: "number 0..4, on, start level, toggle 1, toggle 2"
@@ -104,14 +126,7 @@ unfoldable pub gateFits : List ℕ → Bool
 gateFits b = all (leb (numberAt b 0) 4 ∷ gateRange (gateFrom b))
 
 abbrev pub withGate : List ℕ → Tables → Tables
-withGate b t =
-    record {
-      registers = t .registers;
-      sequences = t .sequences;
-      gates = set (t .gates) (numberAt b 0) (gateFrom b);
-      subck = t .subck;
-      shutters = t .shutters;
-    }
+withGate b t = setGates (set (t .gates) (numberAt b 0) (gateFrom b)) t
 
 -- Kind 5, SUBCK: "start level, toggle 1, toggle 2, suppressed lines, count"
 abbrev pub subckFrom : List ℕ → Subck
@@ -129,14 +144,7 @@ unfoldable pub subckFits : List ℕ → Bool
 subckFits b = all (subckRange (subckFrom b))
 
 abbrev pub withSubck : List ℕ → Tables → Tables
-withSubck b t =
-    record {
-      registers = t .registers;
-      sequences = t .sequences;
-      gates = t .gates;
-      subck = subckFrom b;
-      shutters = t .shutters;
-    }
+withSubck b t = setSubck (subckFrom b) t
 
 -- Kind 6, shutter: "which (0 MSHUT, 1 STROBE), active level, on line, on pixel, off line, off pixel"
 abbrev pub shutterFrom : List ℕ → Shutter
@@ -154,14 +162,7 @@ unfoldable pub shutterFits : List ℕ → Bool
 shutterFits b = all (leb (numberAt b 0) 1 ∷ shutterRange (shutterFrom b))
 
 abbrev pub withShutter : List ℕ → Tables → Tables
-withShutter b t =
-    record {
-      registers = t .registers;
-      sequences = t .sequences;
-      gates = t .gates;
-      subck = t .subck;
-      shutters = set (t .shutters) (numberAt b 0) (shutterFrom b);
-    }
+withShutter b t = setShutters (set (t .shutters) (numberAt b 0) (shutterFrom b)) t
 
 -- one of six things by the kind of a record
 abbrev pub byKind : {A : Type 0} → ℕ → A → A → A → A → A → A → A
@@ -169,11 +170,14 @@ byKind kind a b c d e f =
     cond (eqb kind 1) a (cond (eqb kind 2) b (cond (eqb kind 3) c (cond (eqb kind 4) d (cond (eqb kind 5) e f))))
 
 abbrev pub known : ℕ → Bool
-known kind = leb 1 kind && leb kind 6
+known kind = leb 1 kind && leb kind kinds
 
 -- "Kind 3, field, 10 + 6n bytes, n = 1..7"
 abbrev pub fieldLength : ℕ → Bool
-fieldLength len = leb 16 len && leb len 52 && eqb ((len - 10) % 6) 0
+fieldLength len =
+    leb (headLength + regionLength * 1) len
+    && leb len (headLength + regionLength * 7)
+    && eqb ((len - headLength) % regionLength) 0
 
 -- the body lengths that a kind allows
 unfoldable pub allowed : ℕ → ℕ → Bool
@@ -183,45 +187,51 @@ unfoldable pub fits : ℕ → List ℕ → Bool
 fits kind b = byKind kind (registerFits b) (sequenceFits b) (fieldFits b) (gateFits b) (subckFits b) (shutterFits b)
 
 -- "A later record for the same item replaces the earlier."
-unfoldable pub put : ℕ → List ℕ → Profile → Profile
-put kind b p =
+unfoldable pub withRecord : ℕ → List ℕ → Profile → Profile
+withRecord kind b p =
     byKind kind
-    (record { tables = withRegister b (p .tables); field = p .field })
-    (record { tables = withSequence b (p .tables); field = p .field })
-    (record { tables = p .tables; field = fieldFrom b })
-    (record { tables = withGate b (p .tables); field = p .field })
-    (record { tables = withSubck b (p .tables); field = p .field })
-    (record { tables = withShutter b (p .tables); field = p .field })
+    (setTables (withRegister b (p .tables)) p)
+    (setTables (withSequence b (p .tables)) p)
+    (setField (fieldFrom b) p)
+    (setTables (withGate b (p .tables)) p)
+    (setTables (withSubck b (p .tables)) p)
+    (setTables (withShutter b (p .tables)) p)
 
 -- one record at the front of s: refused with a number, or a body of so many bytes taken, and the profile with it
-pub data Step : Type 0 where
-  stop : ℕ → Step
-  next : ℕ → Profile → Step
+pub data Stepped : Type 0 where
+  stop : ℕ → Stepped
+  next : ℕ → Profile → Stepped
 
 -- the body of the record at the front of s
 abbrev pub bodyOf : List ℕ → List ℕ
 bodyOf s = take (numberAt s 0) (drop 4 s)
 
 -- "header cut (2), kind (3), length (4), body cut (2), values (5)"
-unfoldable pub step : List ℕ → Profile → Step
+unfoldable pub step : List ℕ → Profile → Stepped
 step s p =
     cond (ltb (length s) 4) (stop 2)
     (cond (not (known (numberAt s 2))) (stop 3)
     (cond (not (allowed (numberAt s 2) (numberAt s 0))) (stop 4)
     (cond (ltb (length s) (4 + numberAt s 0)) (stop 2)
-    (cond (fits (numberAt s 2) (bodyOf s)) (next (numberAt s 0) (put (numberAt s 2) (bodyOf s) p)) (stop 5)))))
+    (cond (fits (numberAt s 2) (bodyOf s)) (next (numberAt s 0) (withRecord (numberAt s 2) (bodyOf s) p)) (stop 5)))))
 
--- "record by record": the rest of a script, of which skip bytes are still the last record's; at is the offset of its front
+-- how many bytes of a record come after its first: three of its header, and its body of len bytes
+abbrev pub afterFirst : ℕ → ℕ
+afterFirst len = 3 + len
+
+-- "record by record": reading the bytes that are left of a script, with the profile of the records taken so far.
+-- skip: how many of these bytes still belong to the record that was taken last; where it is 0 the next record starts here.
+-- at: the offset in the script of the first of these bytes, and so of a record that starts here.
 unfoldable pub records : ℕ → ℕ → List ℕ → Profile → ReadAnswer
 records skip at [] p = readAnswer accepted p
 records zero at (x ∷ xs) p =
-    elim (step (x ∷ xs) p) [ stop n ↦ readAnswer (refused n at) p | next len q ↦ records (3 + len) (at + 1) xs q ]
+    elim (step (x ∷ xs) p) [ stop n ↦ readAnswer (refused n at) p | next len q ↦ records (afterFirst len) (at + 1) xs q ]
 records (suc skip) at (x ∷ xs) p = records skip (at + 1) xs p
 
 -- "then 6; then 7 ..", where the records were taken
 abbrev pub judged : ReadAnswer → ReadAnswer
 judged r = cond (accepts (r .verdict)) (readAnswer (judge (r .profile)) (r .profile)) r
 
--- 1, "script over 16,384 bytes", comes first
+-- 1, the length, comes first
 unfoldable pub readScript : List ℕ → ReadAnswer
-readScript s = cond (leb (length s) 16384) (judged (records 0 0 s emptyProfile)) (readAnswer (refused 1 0) emptyProfile)
+readScript s = cond (leb (length s) mostBytes) (judged (records 0 0 s emptyProfile)) (readAnswer (refused 1 0) emptyProfile)

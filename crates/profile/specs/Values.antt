@@ -2,6 +2,7 @@
 -- Assumes nothing.
 use Prim.Native.Nat.{ℕ}
 use mathlib.Core.Path.{_≡_}
+use mathlib.Core.List.{List}
 use mathlib.Core.Bool.{Bool, false, cond}
 use lib.ListN.{length, replicate}
 use lib.Dec.{eqb}
@@ -58,6 +59,34 @@ emptyTables =
 
 abbrev pub emptyProfile : Profile
 emptyProfile = record { tables = emptyTables; field = emptyField }
+
+-- tables with one of their parts replaced
+abbrev pub setRegisters : List ℕ → Tables → Tables
+setRegisters r t =
+    record { registers = r; sequences = t .sequences; gates = t .gates; subck = t .subck; shutters = t .shutters }
+
+abbrev pub setSequences : List Sequence → Tables → Tables
+setSequences s t =
+    record { registers = t .registers; sequences = s; gates = t .gates; subck = t .subck; shutters = t .shutters }
+
+abbrev pub setGates : List Gate → Tables → Tables
+setGates g t =
+    record { registers = t .registers; sequences = t .sequences; gates = g; subck = t .subck; shutters = t .shutters }
+
+abbrev pub setSubck : Subck → Tables → Tables
+setSubck s t =
+    record { registers = t .registers; sequences = t .sequences; gates = t .gates; subck = s; shutters = t .shutters }
+
+abbrev pub setShutters : List Shutter → Tables → Tables
+setShutters s t =
+    record { registers = t .registers; sequences = t .sequences; gates = t .gates; subck = t .subck; shutters = s }
+
+-- a profile with its tables, with its field replaced
+abbrev pub setTables : Tables → Profile → Profile
+setTables t p = record { tables = t; field = p .field }
+
+abbrev pub setField : Field → Profile → Profile
+setField f p = record { tables = p .tables; field = f }
 
 -- the lengths of a profile's arrays: what the types say in code, and what a theorem over any lists has to ask
 pub record Sized (p : Profile) : Type 0 where

@@ -6,7 +6,7 @@ use mathlib.Core.Bool.{cond}
 use lib.ListN.{length, getD}
 use lib.Dec.{leb}
 use Rattle.profile.specs.Lists.{chunks, over}
-use Rattle.profile.specs.Bytes.{twoBytes, threeBytes}
+use Rattle.profile.specs.Bytes.{twoBytes, threeBytes, recordOf}
 use Rattle.profile.specs.Values.{modeNumber, accepted, refused, accepts, emptySequence, emptyGate, emptyShutter}
 use Rattle.profile.specs.Geometry.{regionCount, regionAt}
 use Rattle.profile.specs.Rules.{checkProfile}
@@ -19,49 +19,86 @@ use Rattle.profile.specs.declared.Profile.{Profile}
 use Rattle.profile.specs.declared.Verdict.{Verdict}
 use Rattle.profile.specs.declared.Written.{Written}
 
--- "Each record: body length (2 bytes), kind (2 bytes), body"
+-- "at most 1,312 bytes": every item present, and seven regions
+abbrev pub longestScript : ℕ
+longestScript = 1312
+
+-- The body and the record of each item, by its kind, and what is written of it: its record where it is present, else nothing.
+
+-- Kind 1, register: "address byte, 3 data bytes"
+abbrev pub registerBody : ℕ → ℕ → ℕ → List ℕ
+registerBody address low high = address ∷ threeBytes (low + 4096 * high)
+
 abbrev pub registerRecord : ℕ → ℕ → ℕ → List ℕ
-registerRecord address low high = 4 ∷ 0 ∷ 1 ∷ 0 ∷ address ∷ threeBytes (low + 4096 * high)
+registerRecord address low high = recordOf 1 (registerBody address low high)
 
 abbrev pub registerChunk : List ℕ → ℕ → List ℕ
 registerChunk registers a = registerRecord a (getD registers (2 * a) 0) (getD registers (2 * a + 1) 0)
 
+-- Kind 2, sequence: "number 0..9, pattern, line length, start, odd repetitions, even repetitions, mask"
+abbrev pub sequenceBody : ℕ → Sequence → List ℕ
+sequenceBody k s = twoBytes (k ∷ s .pattern ∷ s .length ∷ s .start ∷ s .odd ∷ s .even ∷ s .mask ∷ [])
+
 abbrev pub sequenceRecord : ℕ → Sequence → List ℕ
-sequenceRecord k s = twoBytes (14 ∷ 2 ∷ k ∷ s .pattern ∷ s .length ∷ s .start ∷ s .odd ∷ s .even ∷ s .mask ∷ [])
+sequenceRecord k s = recordOf 2 (sequenceBody k s)
+
+abbrev pub sequenceWritten : ℕ → Sequence → List ℕ
+sequenceWritten k s = cond (s .present) (sequenceRecord k s) []
 
 abbrev pub sequenceChunk : List Sequence → ℕ → List ℕ
-sequenceChunk ss k = cond (getD ss k emptySequence .present) (sequenceRecord k (getD ss k emptySequence)) []
+sequenceChunk ss k = sequenceWritten k (getD ss k emptySequence)
+
+-- Kind 3, field: "lines, last-line length, gate line, second pattern, n, then n regions: first line, sequence, mode"
+abbrev pub fieldHead : Field → List ℕ
+fieldHead f = twoBytes (f .lines ∷ f .last ∷ f .gate ∷ f .second ∷ f .count ∷ [])
 
 abbrev pub regionBytes : Field → ℕ → List ℕ
 regionBytes f i = twoBytes (regionAt f i .first ∷ regionAt f i .sequence ∷ modeNumber (regionAt f i .mode) ∷ [])
 
-abbrev pub fieldHead : Field → List ℕ
-fieldHead f = twoBytes (f .lines ∷ f .last ∷ f .gate ∷ f .second ∷ f .count ∷ [])
+abbrev pub fieldBody : Field → ℕ → List ℕ
+fieldBody f n = fieldHead f ++ chunks n (regionBytes f)
 
 abbrev pub fieldRecord : Field → List ℕ
-fieldRecord f = twoBytes ((10 + 6 * regionCount f) ∷ 3 ∷ []) ++ fieldHead f ++ chunks (regionCount f) (regionBytes f)
+fieldRecord f = recordOf 3 (fieldBody f (regionCount f))
 
 abbrev pub fieldChunk : Field → List ℕ
 fieldChunk f = cond (f .present) (fieldRecord f) []
 
+-- Kind 4, gate: "number 0..4, on, start level, toggle 1, toggle 2"
+abbrev pub gateBody : ℕ → Gate → List ℕ
+gateBody k g = twoBytes (k ∷ g .on ∷ g .level ∷ g .toggle1 ∷ g .toggle2 ∷ [])
+
 abbrev pub gateRecord : ℕ → Gate → List ℕ
-gateRecord k g = twoBytes (10 ∷ 4 ∷ k ∷ g .on ∷ g .level ∷ g .toggle1 ∷ g .toggle2 ∷ [])
+gateRecord k g = recordOf 4 (gateBody k g)
+
+abbrev pub gateWritten : ℕ → Gate → List ℕ
+gateWritten k g = cond (g .present) (gateRecord k g) []
 
 abbrev pub gateChunk : List Gate → ℕ → List ℕ
-gateChunk gs k = cond (getD gs k emptyGate .present) (gateRecord k (getD gs k emptyGate)) []
+gateChunk gs k = gateWritten k (getD gs k emptyGate)
+
+-- Kind 5, SUBCK: "start level, toggle 1, toggle 2, suppressed lines, count"
+abbrev pub subckBody : Subck → List ℕ
+subckBody s = twoBytes (s .level ∷ s .toggle1 ∷ s .toggle2 ∷ s .suppressed ∷ s .count ∷ [])
 
 abbrev pub subckRecord : Subck → List ℕ
-subckRecord s = twoBytes (10 ∷ 5 ∷ s .level ∷ s .toggle1 ∷ s .toggle2 ∷ s .suppressed ∷ s .count ∷ [])
+subckRecord s = recordOf 5 (subckBody s)
 
 abbrev pub subckChunk : Subck → List ℕ
 subckChunk s = cond (s .present) (subckRecord s) []
 
+-- Kind 6, shutter: "which (0 MSHUT, 1 STROBE), active level, on line, on pixel, off line, off pixel"
+abbrev pub shutterBody : ℕ → Shutter → List ℕ
+shutterBody k s = twoBytes (k ∷ s .active ∷ s .«on_line» ∷ s .«on_pixel» ∷ s .«off_line» ∷ s .«off_pixel» ∷ [])
+
 abbrev pub shutterRecord : ℕ → Shutter → List ℕ
-shutterRecord k s =
-    twoBytes (12 ∷ 6 ∷ k ∷ s .active ∷ s .«on_line» ∷ s .«on_pixel» ∷ s .«off_line» ∷ s .«off_pixel» ∷ [])
+shutterRecord k s = recordOf 6 (shutterBody k s)
+
+abbrev pub shutterWritten : ℕ → Shutter → List ℕ
+shutterWritten k s = cond (s .present) (shutterRecord k s) []
 
 abbrev pub shutterChunk : List Shutter → ℕ → List ℕ
-shutterChunk ss k = cond (getD ss k emptyShutter .present) (shutterRecord k (getD ss k emptyShutter)) []
+shutterChunk ss k = shutterWritten k (getD ss k emptyShutter)
 
 -- "all 120 registers by address, sequences present by number, the field, gates present by number, SUBCK, MSHUT, STROBE"
 unfoldable pub writeScript : Profile → List ℕ

@@ -2,10 +2,20 @@
 use crate::Mode;
 use crate::Pattern;
 ghost use mathlib.Core.Path.{_≡_};
+ghost use mathlib.Core.List.{[]};
 ghost use Prim.Native.Nat.{max};
-ghost use mathlib.Core.Bool.{cond};
-ghost use Rattle.profile.specs.declared.Mode.the-variants.{Multiplier};
-ghost use Rattle.profile.specs.Patterns.{patternOf, rowsOf, used, follows, toggleFault, highestUsed};
+ghost use lib.ListN.{getD};
+ghost use Rattle.profile.specs.Patterns.{
+  patternOf,
+  rowsOf,
+  isPlain,
+  used,
+  follows,
+  toggleFault,
+  usedOr0,
+  highestIn,
+  highestUsed,
+};
 
 // Pattern k; all zeros where there is none.
 pub fn pattern_of(registers: [u16; 240], k: u16) -> Pattern
@@ -68,6 +78,16 @@ pub fn rows_of(t: [u16; 18]) -> [[u16; 3]; 6]
     ]
 }
 
+pub(crate) fn is_plain(mode: Mode) -> bool
+    ensures { λ r. ⌜ r ≡ isPlain mode ⌝ }
+{
+    match mode {
+        Mode::Plain => true,
+        Mode::Sweep => false,
+        Mode::Multiplier => false,
+    }
+}
+
 // Whether a toggle is used in a mode.
 pub(crate) fn used(mode: Mode, length: u16, x: u16) -> bool
     ensures { λ r. ⌜ r ≡ used mode length x ⌝ }
@@ -81,14 +101,14 @@ pub(crate) fn used(mode: Mode, length: u16, x: u16) -> bool
 
 // Whether toggle y may follow toggle x.
 fn follows(mode: Mode, length: u16, x: u16, y: u16) -> bool
-    ensures { λ r. ⌜ r ≡ follows mode length x y ⌝ }
+    ensures { λ r. ⌜ r ≡ follows (used mode length) x y ⌝ }
 {
     !used(mode, length, y) | (used(mode, length, x) & (x < y))
 }
 
 // 0, or the first used toggle out of order, 2 or 3: one function for all six outputs and for the second pattern.
 pub(crate) fn toggle_fault(mode: Mode, length: u16, row: [u16; 3]) -> u16
-    ensures { λ r. ⌜ r ≡ toggleFault mode length row ⌝ }
+    ensures { λ r. ⌜ r ≡ toggleFault (used mode length) row ⌝ }
 {
     if !follows(mode, length, row[0], row[1]) {
         return 2;
@@ -101,7 +121,7 @@ pub(crate) fn toggle_fault(mode: Mode, length: u16, row: [u16; 3]) -> u16
 
 // The higher of the highest so far and a toggle, where multiplier uses it.
 fn higher(highest: u16, x: u16) -> u16
-    ensures { λ r. ⌜ r ≡ max highest (cond (used Multiplier 0 x) x 0) ⌝ }
+    ensures { λ r. ⌜ r ≡ max highest (usedOr0 x) ⌝ }
 {
     if x == 4095 {
         return highest;
@@ -109,15 +129,22 @@ fn higher(highest: u16, x: u16) -> u16
     if highest < x { x } else { highest }
 }
 
+// The higher of the highest so far and an output's toggles.
+fn highest_with(highest: u16, row: [u16; 3]) -> u16
+    ensures { λ r. ⌜ r ≡ max highest (highestIn row) ⌝ }
+{
+    higher(higher(higher(highest, row[0]), row[1]), row[2])
+}
+
 // The highest used toggle of all six outputs, 0 if none, as multiplier uses them.
-pub(crate) fn highest_used(toggles: [u16; 18]) -> u16
-    ensures { λ r. ⌜ r ≡ highestUsed toggles 18 ⌝ }
+pub(crate) fn highest_used(rows: [[u16; 3]; 6]) -> u16
+    ensures { λ r. ⌜ r ≡ highestUsed (λ k. getD rows k []) 6 ⌝ }
 {
     let mut highest = 0u16;
-    let mut n = 0;
-    while n < 18 {
-        highest = higher(highest, toggles[n]);
-        n += 1;
+    let mut k = 0;
+    while k < 6 {
+        highest = highest_with(highest, rows[k]);
+        k += 1;
     }
     highest
 }

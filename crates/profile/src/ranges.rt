@@ -11,7 +11,7 @@ use crate::limits::region_in_range;
 use crate::limits::sequence_in_range;
 use crate::limits::shutter_in_range;
 use crate::limits::subck_in_range;
-use crate::values::mode_number;
+use crate::patterns::is_plain;
 ghost use mathlib.Core.Path.{_≡_};
 ghost use Prim.Native.Nat.{_<_};
 ghost use lib.Dec.{leb};
@@ -20,6 +20,7 @@ ghost use Rattle.profile.specs.Ranges.{
   halfLimit,
   sequenceIn,
   regionIn,
+  headIn,
   fieldIn,
   gateIn,
   subckIn,
@@ -92,9 +93,9 @@ fn shutter_in(s: Shutter) -> bool
     }
 }
 
-// The field's own numbers, without its regions.
-fn field_in(f: Field) -> bool
-    ensures { λ r. ⌜ r ≡ fieldIn f ⌝ }
+// A field's numbers before its regions.
+fn head_in(f: Field) -> bool
+    ensures { λ r. ⌜ r ≡ headIn f ⌝ }
 {
     if f.present {
         field_in_range(f)
@@ -110,11 +111,10 @@ fn region_in(f: Field, i: usize) -> bool
 {
     let region = f.regions[i];
     let mode = region.mode;
-    let number = mode_number(mode);
     if i < f.count as usize {
         region_in_range(region)
     } else {
-        (region.first == 0) & (region.sequence == 0) & (number == 0)
+        is_plain(mode) & (region.first == 0) & (region.sequence == 0)
     }
 }
 
@@ -178,6 +178,13 @@ fn regions_in(f: Field) -> bool
     right
 }
 
+// A field and its regions.
+fn field_in(f: Field) -> bool
+    ensures { λ r. ⌜ r ≡ fieldIn f ⌝ }
+{
+    head_in(f) & regions_in(f)
+}
+
 pub(crate) fn in_range(profile: Profile) -> bool
     ensures { λ r. ⌜ r ≡ inRange profile ⌝ }
 {
@@ -194,5 +201,4 @@ pub(crate) fn in_range(profile: Profile) -> bool
         & subck_in(subck)
         & shutters_in(shutters)
         & field_in(field)
-        & regions_in(field)
 }

@@ -26,9 +26,12 @@ ghost use mathlib.Core.Bool.{true, false};
 ghost use Prim.Native.Nat.{_+_, _*_, _<_, _≤_};
 ghost use lib.ListN.{length};
 ghost use Rattle.profile.specs.Bytes.{numberAt, dataAt};
-ghost use Rattle.profile.specs.Values.{emptyProfile, readAnswer};
+ghost use Rattle.profile.specs.Values.{emptyProfile, setTables, readAnswer};
 ghost use Rattle.profile.specs.Script.{
+  headLength,
+  regionLength,
   sequenceFrom,
+  regionStart,
   gateFrom,
   subckFrom,
   shutterFrom,
@@ -36,7 +39,7 @@ ghost use Rattle.profile.specs.Script.{
   fieldLength,
   allowed,
   fits,
-  put,
+  withRecord,
   records,
   readScript,
 };
@@ -47,7 +50,6 @@ ghost use Rattle.profile.specs.Reading.{
   gateAnswer,
   subckAnswer,
   shutterAnswer,
-  inTables,
   bodyAnswer,
   headFrom,
   regionAnswer,
@@ -56,6 +58,18 @@ ghost use Rattle.profile.specs.Reading.{
   foundAt,
   recordAnswer,
 };
+
+// The kinds are 1 to 6.
+const KINDS: u16 = 6;
+
+// The bytes of a field's body before its regions.
+pub(crate) const HEAD: usize = 10;
+
+// The bytes of a region.
+pub(crate) const REGION: usize = 6;
+
+// The most bytes of a script that is read.
+const MOST_BYTES: usize = 16384;
 
 // ---- numbers of a body, little-endian
 
@@ -107,7 +121,7 @@ fn unfit(profile: Profile) -> BodyAnswer
 
 // The answer of a body whose item is in the tables now.
 fn with_tables(tables: Tables, profile: Profile) -> BodyAnswer
-    ensures { λ r. ⌜ r ≡ bodyAnswer true (inTables tables profile) profile ⌝ }
+    ensures { λ r. ⌜ r ≡ bodyAnswer true (setTables tables profile) profile ⌝ }
 {
     let mut after = profile;
     after.tables = tables;
@@ -272,12 +286,13 @@ pub struct RegionsAnswer {
 
 // Region i of a field's body, and whether its numbers are in range.
 fn region_from(body: &[u8], i: usize) -> RegionAnswer
-    requires { ⌜ 16 + 6 * i ≤ length (now body) ⌝ }
+    requires { ⌜ regionStart (i + 1) ≤ length (now body) ⌝ }
     ensures { λ r. ⌜ r ≡ regionAnswer (now (body .entry)) i ⌝ }
 {
-    let first = number_at(body, 10 + 6 * i);
-    let sequence = number_at(body, 12 + 6 * i);
-    let number = number_at(body, 14 + 6 * i);
+    let at = HEAD + REGION * i;
+    let first = number_at(body, at);
+    let sequence = number_at(body, at + 2);
+    let number = number_at(body, at + 4);
     let region = Region {
         first: first,
         sequence: sequence,
@@ -291,7 +306,7 @@ fn region_from(body: &[u8], i: usize) -> RegionAnswer
 
 // The first regions of a field's body.
 fn regions_from(body: &[u8], count: usize) -> RegionsAnswer
-    requires { ⌜ (10 + 6 * count ≤ length (now body)) × (count ≤ 7) ⌝ }
+    requires { ⌜ (headLength + regionLength * count ≤ length (now body)) × (count ≤ 7) ⌝ }
     ensures { λ r. ⌜ r ≡ regionsAnswer (now (body .entry)) count ⌝ }
 {
     let none = empty_region();
@@ -313,7 +328,7 @@ fn regions_from(body: &[u8], count: usize) -> RegionsAnswer
 
 // The numbers before the regions.
 fn head_from(body: &[u8]) -> Field
-    requires { ⌜ 9 < length (now body) ⌝ }
+    requires { ⌜ headLength ≤ length (now body) ⌝ }
     ensures { λ r. ⌜ r ≡ headFrom (now (body .entry)) ⌝ }
 {
     let none = empty_region();
@@ -331,12 +346,12 @@ fn head_from(body: &[u8]) -> Field
 
 // Kind 3: the field, with as many regions as the body has room for.
 fn read_field(body: &[u8], profile: Profile) -> BodyAnswer
-    requires { ⌜ 9 < length (now body) ⌝ }
+    requires { ⌜ headLength ≤ length (now body) ⌝ }
     ensures { λ r. ⌜ r ≡ fieldAnswer (now (body .entry)) profile ⌝ }
 {
     let head = head_from(body);
     let count = head.count as usize;
-    let fits = (10 + 6 * count == body.len()) & field_in_range(head);
+    let fits = (HEAD + REGION * count == body.len()) & field_in_range(head);
     if !fits {
         return unfit(profile);
     }
@@ -358,7 +373,7 @@ fn read_field(body: &[u8], profile: Profile) -> BodyAnswer
 // The reader of a kind, given a body of a length that the kind allows.
 fn read_body(kind: u16, body: &[u8], profile: Profile) -> BodyAnswer
     requires { ⌜ allowed kind (length (now body)) ≡ true ⌝ }
-    ensures { λ r. ⌜ r ≡ bodyAnswer (fits kind (now (body .entry))) (put kind (now (body .entry)) profile) profile ⌝ }
+    ensures { λ r. ⌜ r ≡ bodyAnswer (fits kind (now (body .entry))) (withRecord kind (now (body .entry)) profile) profile ⌝ }
 {
     match kind {
         1 => read_register(body, profile),
@@ -390,7 +405,7 @@ pub struct RecordAnswer {
 fn is_known(kind: u16) -> bool
     ensures { λ r. ⌜ r ≡ known kind ⌝ }
 {
-    (1 <= kind) & (kind <= 6)
+    (1 <= kind) & (kind <= KINDS)
 }
 
 fn is_field_length(length: usize) -> bool
@@ -399,7 +414,7 @@ fn is_field_length(length: usize) -> bool
     if length < 16 {
         return false;
     }
-    (length <= 52) & ((length - 10) % 6 == 0)
+    (length <= 52) & ((length - HEAD) % REGION == 0)
 }
 
 // Whether a kind allows a body of this length.
@@ -502,7 +517,7 @@ fn open<'a>(script: &'a [u8], at: usize) -> Reader<'a>
 }
 
 // The record at the reader's place, put into the profile.
-fn advance<'a>(reader: Reader<'a>, profile: Profile) -> RecordAnswer
+fn record_here<'a>(reader: Reader<'a>, profile: Profile) -> RecordAnswer
     ensures { λ r. ⌜ r ≡ recordAnswer (now (reader .entry .script)) (reader .entry .at) profile ⌝ }
 {
     record_at(reader.script, reader.at, profile)
@@ -512,7 +527,7 @@ fn advance<'a>(reader: Reader<'a>, profile: Profile) -> RecordAnswer
 fn record_by(script: &[u8], at: usize, profile: Profile) -> RecordAnswer
     ensures { λ r. ⌜ r ≡ recordAnswer (now (script .entry)) at profile ⌝ }
 {
-    advance(open(script, at), profile)
+    record_here(open(script, at), profile)
 }
 
 // ---- all records
@@ -555,7 +570,7 @@ pub(crate) fn read_records(script: &[u8]) -> ReadAnswer
 pub fn read(script: &[u8]) -> ReadAnswer
     ensures { λ r. ⌜ r ≡ readScript (now (script .entry)) ⌝ }
 {
-    if 16384 < script.len() {
+    if MOST_BYTES < script.len() {
         return make_answer(refuse(1, 0), empty());
     }
     let taken = read_records(script);

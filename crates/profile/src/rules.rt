@@ -21,6 +21,7 @@ use crate::geometry::region_pixels;
 use crate::geometry::repetitions;
 use crate::geometry::sequence_of;
 use crate::patterns::highest_used;
+use crate::patterns::is_plain;
 use crate::patterns::pattern_of;
 use crate::patterns::rows_of;
 use crate::patterns::toggle_fault;
@@ -31,23 +32,25 @@ ghost use mathlib.Core.List.{[], _∷_, _++_};
 ghost use mathlib.Core.Bool.{_&&_};
 ghost use Prim.Native.Nat.{_+_, _*_};
 ghost use lib.Dec.{leb, eqb};
+ghost use lib.ListN.{getD};
 ghost use Rattle.profile.specs.Lists.{all, chunks};
+ghost use Rattle.profile.specs.Patterns.{used};
 ghost use Rattle.profile.specs.Geometry.{regionCount};
 ghost use Rattle.profile.specs.Rules.{
   firstBroken,
   startsRight,
-  togglesRight,
+  rowRight,
   pairsRight,
   maskRight,
   countsRight,
   endsRight,
-  isPlain,
   firstEnds,
   secondRight,
   gateRight,
   subckRight,
   shutterRight,
   orderEntries,
+  runEntries,
   entriesAt,
   regionEntries,
   lineEntries,
@@ -90,18 +93,16 @@ fn order_verdict(field: Field) -> Verdict
 }
 
 // 10: the toggles of all six outputs.
-fn toggles_right(mode: Mode, pattern: Pattern) -> bool
-    ensures { λ r. ⌜ r ≡ all (chunks 6 (λ k. togglesRight mode pattern k ∷ [])) ⌝ }
+fn toggles_right(mode: Mode, length: u16, rows: [[u16; 3]; 6]) -> bool
+    ensures { λ r. ⌜ r ≡ all (chunks 6 (λ k. rowRight (used mode length) (getD rows k []) ∷ [])) ⌝ }
 {
-    let t = pattern.toggles;
-    let rows = rows_of(t);
-    let n = pattern.length;
-    (toggle_fault(mode, n, rows[0]) == 0)
-        & (toggle_fault(mode, n, rows[1]) == 0)
-        & (toggle_fault(mode, n, rows[2]) == 0)
-        & (toggle_fault(mode, n, rows[3]) == 0)
-        & (toggle_fault(mode, n, rows[4]) == 0)
-        & (toggle_fault(mode, n, rows[5]) == 0)
+    let mut right = true;
+    let mut k = 0;
+    while k < 6 {
+        right = right & (toggle_fault(mode, length, rows[k]) == 0);
+        k += 1;
+    }
+    right
 }
 
 // 11, plain: the freeze and resume pairs that the mask turns on.
@@ -141,7 +142,7 @@ fn counts_right(mode: Mode, sequence: Sequence, pattern: Pattern) -> bool
     match mode {
         Mode::Plain => true,
         Mode::Sweep => sequence.odd == sequence.even,
-        Mode::Multiplier => both_are(sequence, highest_used(t)),
+        Mode::Multiplier => both_are(sequence, highest_used(rows_of(t))),
     }
 }
 
@@ -163,19 +164,10 @@ fn ends_right(mode: Mode, sequence: Sequence, pattern: Pattern, size: u64) -> bo
     }
 }
 
-// 8 to 13 of region i, with its mode, its sequence, that sequence's pattern and its size.
+// 11 to 13 of region i, with its mode, its sequence, that sequence's pattern and its size.
 fn run_verdict(i: usize, mode: Mode, sequence: Sequence, pattern: Pattern, size: u64) -> Verdict
-    ensures { λ r. ⌜ r ≡ firstBroken (entriesAt i mode sequence pattern size) ⌝ }
+    ensures { λ r. ⌜ r ≡ firstBroken (runEntries i mode sequence pattern size) ⌝ }
 {
-    if !sequence.present {
-        return refuse(8, i as u64);
-    }
-    if pattern.length == 0 {
-        return refuse(9, i as u64);
-    }
-    if !toggles_right(mode, pattern) {
-        return refuse(10, i as u64);
-    }
     if !mask_right(mode, sequence.mask, pattern) {
         return refuse(11, i as u64);
     }
@@ -188,6 +180,29 @@ fn run_verdict(i: usize, mode: Mode, sequence: Sequence, pattern: Pattern, size:
     accept()
 }
 
+// 8 to 13 of region i, with the same.
+fn sequence_verdict(
+    i: usize,
+    mode: Mode,
+    sequence: Sequence,
+    pattern: Pattern,
+    size: u64,
+) -> Verdict
+    ensures { λ r. ⌜ r ≡ firstBroken (entriesAt i mode sequence pattern size) ⌝ }
+{
+    if !sequence.present {
+        return refuse(8, i as u64);
+    }
+    if pattern.length == 0 {
+        return refuse(9, i as u64);
+    }
+    let t = pattern.toggles;
+    if !toggles_right(mode, pattern.length, rows_of(t)) {
+        return refuse(10, i as u64);
+    }
+    run_verdict(i, mode, sequence, pattern, size)
+}
+
 // 8 to 13 at one region.
 fn region_verdict(tables: Tables, field: Field, i: usize) -> Verdict
     ensures { λ r. ⌜ r ≡ firstBroken (regionEntries tables field i) ⌝ }
@@ -198,7 +213,7 @@ fn region_verdict(tables: Tables, field: Field, i: usize) -> Verdict
     let registers = tables.registers;
     let pattern = pattern_of(registers, sequence.pattern);
     let size = region_pixels(tables, field, i, end_line(field, i));
-    run_verdict(i, mode, sequence, pattern, size)
+    sequence_verdict(i, mode, sequence, pattern, size)
 }
 
 // 8 to 13, region by region.
@@ -215,16 +230,6 @@ fn regions_verdict(tables: Tables, field: Field) -> Verdict
         i += 1;
     }
     accept()
-}
-
-fn is_plain(mode: Mode) -> bool
-    ensures { λ r. ⌜ r ≡ isPlain mode ⌝ }
-{
-    match mode {
-        Mode::Plain => true,
-        Mode::Sweep => false,
-        Mode::Multiplier => false,
-    }
 }
 
 // 14: the first pattern has ended where the second begins.
@@ -245,9 +250,10 @@ fn second_right(tables: Tables, field: Field, pattern: Pattern, line: u64) -> bo
     let sequence = sequence_of(tables, region.sequence);
     let registers = tables.registers;
     let first = pattern_of(registers, sequence.pattern);
+    let t = pattern.toggles;
     is_plain(mode)
         & (pattern.length != 0)
-        & toggles_right(Mode::Multiplier, pattern)
+        & toggles_right(Mode::Multiplier, pattern.length, rows_of(t))
         & (pattern.length < line_length(tables, field, line))
         & first_ends(sequence, line, first.length, pattern.length)
 }

@@ -8,6 +8,8 @@ use crate::Subck;
 use crate::Written;
 use crate::accept;
 use crate::geometry::region_count;
+use crate::records::HEAD;
+use crate::records::REGION;
 use crate::refuse;
 use crate::rules::check;
 use crate::values::mode_number;
@@ -19,17 +21,19 @@ ghost use lib.ListN.{length};
 ghost use lib.Seq.{sets};
 ghost use Rattle.profile.specs.Lists.{chunks, over};
 ghost use Rattle.profile.specs.Bytes.{twoBytes};
+ghost use Rattle.profile.specs.Script.{regionLength};
 ghost use Rattle.profile.specs.Writing.{
+  longestScript,
   registerRecord,
   registerChunk,
-  sequenceRecord,
+  sequenceWritten,
   sequenceChunk,
   regionBytes,
   fieldChunk,
-  gateRecord,
+  gateWritten,
   gateChunk,
   subckChunk,
-  shutterRecord,
+  shutterWritten,
   shutterChunk,
   writeScript,
   writeAnswer,
@@ -37,7 +41,7 @@ ghost use Rattle.profile.specs.Writing.{
 };
 
 // Stores bytes at a place.
-fn put(out: &mut [u8], at: usize, bytes: &[u8])
+fn store(out: &mut [u8], at: usize, bytes: &[u8])
     requires { ⌜ at + length (now bytes) ≤ length (now out) ⌝ }
     ensures { λ _. ⌜ now (out .exit) ≡ sets (now (out .entry)) at (now (bytes .entry)) ⌝ }
 {
@@ -93,7 +97,7 @@ fn put_register(out: &mut [u8], at: usize, address: u8, low: u16, high: u16)
         (v / 256 % 256) as u8,
         (v / 65536 % 256) as u8,
     ];
-    put(out, at, &b);
+    store(out, at, &b);
 }
 
 // All registers by address, from the slice's first byte.
@@ -109,9 +113,9 @@ fn put_registers(out: &mut [u8], registers: [u16; 240])
 }
 
 fn put_sequence(out: &mut [u8], at: usize, k: u16, s: Sequence) -> usize
-    requires { ⌜ at + length (cond (s .present) (sequenceRecord k s) []) ≤ length (now out) ⌝ }
-    ensures { λ r. ⌜ r ≡ at + length (cond (s .present) (sequenceRecord k s) []) ⌝ }
-    ensures { λ _. ⌜ now (out .exit) ≡ sets (now (out .entry)) at (cond (s .present) (sequenceRecord k s) []) ⌝ }
+    requires { ⌜ at + length (sequenceWritten k s) ≤ length (now out) ⌝ }
+    ensures { λ r. ⌜ r ≡ at + length (sequenceWritten k s) ⌝ }
+    ensures { λ _. ⌜ now (out .exit) ≡ sets (now (out .entry)) at (sequenceWritten k s) ⌝ }
 {
     let w = [
         14,
@@ -128,9 +132,9 @@ fn put_sequence(out: &mut [u8], at: usize, k: u16, s: Sequence) -> usize
 }
 
 fn put_gate(out: &mut [u8], at: usize, k: u16, g: Gate) -> usize
-    requires { ⌜ at + length (cond (g .present) (gateRecord k g) []) ≤ length (now out) ⌝ }
-    ensures { λ r. ⌜ r ≡ at + length (cond (g .present) (gateRecord k g) []) ⌝ }
-    ensures { λ _. ⌜ now (out .exit) ≡ sets (now (out .entry)) at (cond (g .present) (gateRecord k g) []) ⌝ }
+    requires { ⌜ at + length (gateWritten k g) ≤ length (now out) ⌝ }
+    ensures { λ r. ⌜ r ≡ at + length (gateWritten k g) ⌝ }
+    ensures { λ _. ⌜ now (out .exit) ≡ sets (now (out .entry)) at (gateWritten k g) ⌝ }
 {
     let w = [10, 4, k, g.on, g.level, g.toggle1, g.toggle2];
     put_present(out, at, g.present, &w)
@@ -146,9 +150,9 @@ fn put_subck(out: &mut [u8], at: usize, s: Subck) -> usize
 }
 
 fn put_shutter(out: &mut [u8], at: usize, k: u16, s: Shutter) -> usize
-    requires { ⌜ at + length (cond (s .present) (shutterRecord k s) []) ≤ length (now out) ⌝ }
-    ensures { λ r. ⌜ r ≡ at + length (cond (s .present) (shutterRecord k s) []) ⌝ }
-    ensures { λ _. ⌜ now (out .exit) ≡ sets (now (out .entry)) at (cond (s .present) (shutterRecord k s) []) ⌝ }
+    requires { ⌜ at + length (shutterWritten k s) ≤ length (now out) ⌝ }
+    ensures { λ r. ⌜ r ≡ at + length (shutterWritten k s) ⌝ }
+    ensures { λ _. ⌜ now (out .exit) ≡ sets (now (out .entry)) at (shutterWritten k s) ⌝ }
 {
     let w = [
         12,
@@ -210,7 +214,7 @@ fn put_shutters(out: &mut [u8], at: usize, shutters: [Shutter; 2]) -> usize
 
 // Region i of a field.
 fn put_region(out: &mut [u8], at: usize, f: Field, i: usize)
-    requires { ⌜ (at + 6 ≤ length (now out)) × (i < 7) ⌝ }
+    requires { ⌜ (at + regionLength ≤ length (now out)) × (i < 7) ⌝ }
     ensures { λ _. ⌜ now (out .exit) ≡ sets (now (out .entry)) at (regionBytes f i) ⌝ }
 {
     let region = f.regions[i];
@@ -222,12 +226,12 @@ fn put_region(out: &mut [u8], at: usize, f: Field, i: usize)
 
 // The field's regions, from a place on.
 fn put_regions(out: &mut [u8], at: usize, f: Field, n: usize)
-    requires { ⌜ (at + 6 * n ≤ length (now out)) × (n ≤ 7) ⌝ }
+    requires { ⌜ (at + regionLength * n ≤ length (now out)) × (n ≤ 7) ⌝ }
     ensures { λ _. ⌜ now (out .exit) ≡ sets (now (out .entry)) at (chunks n (regionBytes f)) ⌝ }
 {
     let mut i = 0;
     while i < n {
-        put_region(out, at + 6 * i, f, i);
+        put_region(out, at + REGION * i, f, i);
         i += 1;
     }
 }
@@ -243,7 +247,7 @@ fn put_field(out: &mut [u8], at: usize, f: Field) -> usize
     }
     let n = region_count(f);
     let w = [
-        (10 + 6 * n) as u16,
+        (HEAD + REGION * n) as u16,
         3,
         f.lines,
         f.last,
@@ -252,8 +256,9 @@ fn put_field(out: &mut [u8], at: usize, f: Field) -> usize
         f.count,
     ];
     put_numbers(out, at, &w);
-    put_regions(out, at + 14, f, n);
-    at + 14 + 6 * n
+    let from = at + 4 + HEAD;
+    put_regions(out, from, f, n);
+    from + REGION * n
 }
 
 // Registers, sequences, the field, gates, SUBCK, MSHUT and STROBE, in this order from the slice's first byte.
@@ -330,13 +335,13 @@ fn field_length(f: Field) -> usize
     ensures { λ r. ⌜ r ≡ length (fieldChunk f) ⌝ }
     ensures { λ r. ⌜ r ≤ 56 ⌝ }
 {
-    size_of(f.present, 14 + 6 * region_count(f))
+    size_of(f.present, 4 + HEAD + REGION * region_count(f))
 }
 
 // How many bytes the profile's script has.
 fn script_length(profile: Profile) -> usize
     ensures { λ r. ⌜ r ≡ length (writeScript profile) ⌝ }
-    ensures { λ r. ⌜ r ≤ 1312 ⌝ }
+    ensures { λ r. ⌜ r ≤ longestScript ⌝ }
 {
     let tables = profile.tables;
     let field = profile.field;

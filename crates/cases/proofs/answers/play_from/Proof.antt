@@ -1,63 +1,27 @@
 -- The lists are what the payload has, and as long as before.
 -- Assumes nothing.
+use borrow.Author.Needs.{needs}
 use native.Mathlib.Omega.{arith}
 use mathlib.Core.Path.{_≡_}
 use lib.ListN.{length}
-use borrow.Author.Needs.{needs}
 use Rattle.holdlist.proofs.Puts.{puts-as}
 use Rattle.cases.proofs.Answered.{play-filled}
 use Rattle.cases.proofs.answers.play_from.Statement.{statement}
 use Rattle.cases.proofs.answers.play_from.Tie as tie
 
-eight-at-requires : tie.Need-eight-at-requires
-eight-at-requires c κs = search needs
-
-eight-at-requires-2 : tie.Need-eight-at-requires-2
-eight-at-requires-2 c κs = search needs
-
-fill-fours-requires : tie.Need-fill-fours-requires
-fill-fours-requires c κs = search needs
-
-mul-fill-numbers : tie.Need-mul-fill-numbers
-mul-fill-numbers c = search needs
-
-add-fill-numbers : tie.Need-add-fill-numbers
-add-fill-numbers c = search needs
-
-fill-numbers-requires : tie.Need-fill-numbers-requires
-fill-numbers-requires c κs = search needs
-
-put-played-requires : tie.Need-put-played-requires
-put-played-requires c κs = search needs
-
-same-length : tie.Need-same-length
-same-length c = search needs
-
-same-length-2 : tie.Need-same-length-2
-same-length-2 c = search needs
-
-same-length-3 : tie.Need-same-length-3
-same-length-3 c = search needs
-
 returns : tie.Need-returns
-returns c = let a = c .before .before .before .before .before .before .before .before .before .before .before .before .before .before .before .before .before .before .before .before .args in
-    let f = c .before .before .before .before .before .before .before .before .before .before .before .before .fill-fours in
-    let h : length (f .last .0) ≡ length (a .counts .now) = omega arith in
+returns c =
+    let w = c .before .before .before .before .before .before .before .before in
+    let f = w .before .before .before .before in
+    let e = f .before .before .before in
+    let a = e .before .before .before .before .before .args in
+    let n = length (f .fill-fours .last .0) in
+    let h : n ≡ length (a .counts .now) = omega arith in
     puts-as (c .before .before .put-played .ensures)
-    (play-filled (a .payload .now) (a .counts .now) (a .words .now) _ _ (length (f .last .0)) _ _ (c .before .before .before .before .before .before .before .before .before .before .before .before .before .before .before .eight-at .ensures) (c .before .before .before .before .before .before .before .before .before .before .before .before .before .before .eight-at2 .ensures) (c .before .before .before .before .before .before .before .before .before .before .before .before .fill-fours .ensures) (c .before .before .before .before .before .before .before .before .fill-numbers .ensures) h)
+    (play-filled (a .payload .now) (a .counts .now) (a .words .now) _ _ n _ _ (e .eight-at .ensures) (f .before .before .eight-at2 .ensures) (f .fill-fours .ensures) (w .fill-numbers .ensures) h)
 
 pub play-from-spec : {M : Type 1} → statement M
 play-from-spec =
     tie.close
-    (tie.spec
-    eight-at-requires
-    eight-at-requires-2
-    fill-fours-requires
-    mul-fill-numbers
-    add-fill-numbers
-    fill-numbers-requires
-    put-played-requires
-    same-length
-    same-length-2
-    same-length-3
-    returns)
+    (tie.spec (λ c κs. search needs) (λ c κs. search needs) (λ c κs. search needs) (λ c. search needs) (λ c. search needs)
+    (λ c κs. search needs) (λ c κs. search needs) (λ c. search needs) (λ c. search needs) (λ c. search needs) returns)

@@ -1,71 +1,22 @@
 -- The loop's invariant: the first i entries are read and the rest are as they were.
 -- Assumes nothing.
-use Prim.Native.Nat.{_≤_, _+_, _*_, _-_}
-use native.Mathlib.Omega.{arith}
-use mathlib.Core.List.{[], _∷_, _++_}
-use mathlib.Core.Path.{_≡_, refl}
-use lib.ListN.{length, drop, length-set}
+use Prim.Native.Nat.{_+_, _*_, _-_}
+use lib.ListN.{length}
 use borrow.Author.Needs.{needs}
 use Rattle.profile.specs.Bytes.{numberAt}
-use Rattle.profile.specs.Lists.{chunks}
-use Rattle.cases.proofs.Filling.{filled-none, filled-more, filled-all}
+use Rattle.cases.proofs.Filling.{Filled, filled-all, filling}
 use Rattle.cases.proofs.raw.fill_numbers.Statement.{statement}
 use Rattle.cases.proofs.raw.fill_numbers.Tie as tie
 
 abbrev Inv-loop : tie.InvT-loop
-Inv-loop list₀ body at i₀ list i = (i ≤ length list₀) × (list ≡ chunks i (λ k. numberAt body (at + 2 * k) ∷ []) ++ drop i list₀) × (length list ≡ length list₀)
+Inv-loop list₀ body at i₀ list i = Filled (λ k. numberAt body (at + 2 * k)) list₀ list i
 
 abbrev μ-loop : tie.MeasureT-loop
 μ-loop list₀ body at i₀ list i = length list₀ - i
 
-loop-holds : tie.Need-loop-holds Inv-loop μ-loop
-loop-holds c = (omega arith, filled-none _ _, refl)
-
-mul-number-at : tie.Need-mul-number-at Inv-loop μ-loop
-mul-number-at c = search needs
-
-add-number-at : tie.Need-add-number-at Inv-loop μ-loop
-add-number-at c = search needs
-
-number-at-requires : tie.Need-number-at-requires Inv-loop μ-loop
-number-at-requires c κs = search needs
-
-mul-list : tie.Need-mul-list Inv-loop μ-loop
-mul-list c = search needs
-
-slice-write-list : tie.Need-slice-write-list Inv-loop μ-loop
-slice-write-list c = search needs
-
-add-i : tie.Need-add-i Inv-loop μ-loop
-add-i c = search needs
-
-loop-less : tie.Need-loop-less Inv-loop μ-loop
-loop-less c = search needs
-
-loop-again : tie.Need-loop-again Inv-loop μ-loop
-loop-again c = let l = c .before .before .loop in
-    (omega arith, filled-more _ _ _ (l .inv .1) (omega arith) (c .number-at .ensures), simp length-set (l .inv .2))
-
-same-length : tie.Need-same-length Inv-loop μ-loop
-same-length c = c .before .loop .inv .2
-
-returns : tie.Need-returns Inv-loop μ-loop
-returns c = filled-all _ _ _ (c .before .loop .inv .1) (omega arith)
-
 pub fill-numbers-spec : {M : Type 1} → statement M
 fill-numbers-spec =
     tie.close
-    (tie.spec
-    Inv-loop
-    μ-loop
-    loop-holds
-    mul-number-at
-    add-number-at
-    number-at-requires
-    mul-list
-    slice-write-list
-    add-i
-    loop-less
-    loop-again
-    same-length
-    returns)
+    (tie.spec Inv-loop μ-loop (λ c. search filling) (λ c. search needs) (λ c. search needs) (λ c κs. search needs)
+    (λ c. search needs) (λ c. search needs) (λ c. search needs) (λ c. search needs) (λ c. search filling) (λ c. search needs)
+    (λ c. filled-all (c .before .loop .inv) (search needs)))

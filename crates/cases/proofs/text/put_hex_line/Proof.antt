@@ -1,24 +1,22 @@
--- The entries, then the end of the line.
+-- The loop's invariant: the first i are put.
 -- Assumes nothing.
+use Prim.Native.Nat.{_-_}
+use lib.ListN.{length, getD}
 use borrow.Author.Needs.{needs}
-use Rattle.holdlist.proofs.Puts.{puts-more}
+use Rattle.holdlist.specs.Text.{hex2}
+use Rattle.holdlist.proofs.Puts.{Chunked}
+use Rattle.cases.proofs.Putting.{putting}
 use Rattle.cases.proofs.text.put_hex_line.Statement.{statement}
 use Rattle.cases.proofs.text.put_hex_line.Tie as tie
 
-put-hex-requires : tie.Need-put-hex-requires
-put-hex-requires c κs = search needs
+abbrev Inv-loop : tie.InvT-loop
+Inv-loop out₀ at bytes to₀ i₀ out to i = Chunked (λ j. hex2 (getD bytes j 0)) (length bytes) out₀ at to out i
 
-put-byte-requires : tie.Need-put-byte-requires
-put-byte-requires c κs = search needs
-
-same-length : tie.Need-same-length
-same-length c = search needs
-
-returns : tie.Need-returns
-returns c =
-    let b = c .before .before in
-    let a = b .before .before .before .before in
-    puts-more (a .put-hex .ensures) (b .put-byte .ensures)
+abbrev μ-loop : tie.MeasureT-loop
+μ-loop out₀ at bytes to₀ i₀ out to i = length bytes - i
 
 pub put-hex-line-spec : {M : Type 1} → statement M
-put-hex-line-spec = tie.close (tie.spec put-hex-requires put-byte-requires same-length returns)
+put-hex-line-spec =
+    tie.close
+    (tie.spec Inv-loop μ-loop (λ c. search putting) (λ c. search needs) (λ c κs. search needs) (λ c. search needs)
+    (λ c. search needs) (λ c. search putting) (λ c κs. search needs) (λ c. search needs) (λ c. search putting))

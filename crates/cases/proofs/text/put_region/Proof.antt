@@ -5,27 +5,10 @@ use Rattle.holdlist.proofs.Puts.{puts-as}
 use Rattle.cases.proofs.text.put_region.Statement.{statement}
 use Rattle.cases.proofs.text.put_region.Tie as tie
 
-mode-number-requires : tie.Need-mode-number-requires
-mode-number-requires c κs = search needs
-
-slice-aggregate-put-afters : tie.Need-slice-aggregate-put-afters
-slice-aggregate-put-afters c = search needs
-
-put-afters-requires : tie.Need-put-afters-requires
-put-afters-requires c κs = search needs
-
-same-length : tie.Need-same-length
-same-length c = search needs
-
 returns : tie.Need-returns
-returns c = puts-as (c .before .before .put-afters .ensures) (cc)
+returns c = puts-as (c .before .before .put-numbers .ensures) (cc)
 
 pub put-region-spec : {M : Type 1} → statement M
 put-region-spec =
     tie.close
-    (tie.spec
-    mode-number-requires
-    slice-aggregate-put-afters
-    put-afters-requires
-    same-length
-    returns)
+    (tie.spec (λ c κs. search needs) (λ c. search needs) (λ c κs. search needs) (λ c. search needs) returns)

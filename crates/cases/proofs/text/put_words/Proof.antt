@@ -1,24 +1,9 @@
--- The entries, then the end of the line.
+-- The numbers, then the end of the line.
 -- Assumes nothing.
 use borrow.Author.Needs.{needs}
-use Rattle.holdlist.proofs.Puts.{puts-more}
+use Rattle.cases.proofs.Putting.{putting}
 use Rattle.cases.proofs.text.put_words.Statement.{statement}
 use Rattle.cases.proofs.text.put_words.Tie as tie
 
-put-joined-requires : tie.Need-put-joined-requires
-put-joined-requires c κs = search needs
-
-put-byte-requires : tie.Need-put-byte-requires
-put-byte-requires c κs = search needs
-
-same-length : tie.Need-same-length
-same-length c = search needs
-
-returns : tie.Need-returns
-returns c =
-    let b = c .before .before in
-    let a = b .before .before .before .before in
-    puts-more (a .put-joined .ensures) (b .put-byte .ensures)
-
 pub put-words-spec : {M : Type 1} → statement M
-put-words-spec = tie.close (tie.spec put-joined-requires put-byte-requires same-length returns)
+put-words-spec = tie.close (tie.spec (λ c κs. search needs) (λ c κs. search needs) (λ c. search needs) (λ c. search putting))

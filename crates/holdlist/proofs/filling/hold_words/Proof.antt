@@ -21,61 +21,10 @@ abbrev μ-loop : tie.MeasureT-loop
 loop-holds : tie.Need-loop-holds Inv-loop μ-loop
 loop-holds c = (omega arith, c .before .before .before .pre, refl, filling (fills-none _ _ _))
 
-run-end-requires : tie.Need-run-end-requires Inv-loop μ-loop
-run-end-requires c κs = search needs
-
-sub-times : tie.Need-sub-times Inv-loop μ-loop
-sub-times c = omega arith
-
-cast-times : tie.Need-cast-times Inv-loop μ-loop
-cast-times c = omega arith
-
-least-requires : tie.Need-least-requires Inv-loop μ-loop
-least-requires c κs = search needs
-
-least-requires-2 : tie.Need-least-requires-2 Inv-loop μ-loop
-least-requires-2 c κs = search needs
-
-mul-hold : tie.Need-mul-hold Inv-loop μ-loop
-mul-hold c = omega arith
-
-shared-slice-read-hold : tie.Need-shared-slice-read-hold Inv-loop μ-loop
-shared-slice-read-hold c = omega arith
-
-mul-hold-2 : tie.Need-mul-hold-2 Inv-loop μ-loop
-mul-hold-2 c = omega arith
-
-sub-hold : tie.Need-sub-hold Inv-loop μ-loop
-sub-hold c = omega arith
-
-part-hold-start : tie.Need-part-hold-start Inv-loop μ-loop
-part-hold-start c = omega arith
-
-part-hold-end : tie.Need-part-hold-end Inv-loop μ-loop
-part-hold-end c = omega arith
-
-mul-hold-3 : tie.Need-mul-hold-3 Inv-loop μ-loop
-mul-hold-3 c = omega arith
-
-sub-hold-2 : tie.Need-sub-hold-2 Inv-loop μ-loop
-sub-hold-2 c = omega arith
-
-part-hold-start-2 : tie.Need-part-hold-start-2 Inv-loop μ-loop
-part-hold-start-2 c = omega arith
-
-part-hold-end-2 : tie.Need-part-hold-end-2 Inv-loop μ-loop
-part-hold-end-2 c = omega arith
-
-hold-requires : tie.Need-hold-requires Inv-loop μ-loop
-hold-requires c κs = omega arith
-
 add-used : tie.Need-add-used Inv-loop μ-loop
 add-used c =
     let s = c .before .before .before .before .before .before in
     omega (arith, alike-few (s .before .before .before .before .before .before .run-end .ensures) (s .hold .ensures))
-
-loop-less : tie.Need-loop-less Inv-loop μ-loop
-loop-less c = omega arith
 
 loop-again : tie.Need-loop-again Inv-loop μ-loop
 loop-again c =
@@ -88,12 +37,6 @@ loop-again c =
       filling (fills-more (l .inv .3 .fills) (search needs) (search needs) (s .hold .ensures) (r .run-end .ensures .grows)),
     )
 
-same-length : tie.Need-same-length Inv-loop μ-loop
-same-length c = omega arith
-
-same-length-2 : tie.Need-same-length-2 Inv-loop μ-loop
-same-length-2 c = omega arith
-
 returns : tie.Need-returns Inv-loop μ-loop
 returns c =
     let l = c .before .loop in
@@ -102,29 +45,7 @@ returns c =
 pub hold-words-spec : {M : Type 1} → statement M
 hold-words-spec =
     tie.close
-    (tie.spec
-    Inv-loop
-    μ-loop
-    loop-holds
-    run-end-requires
-    sub-times
-    cast-times
-    least-requires
-    least-requires-2
-    mul-hold
-    shared-slice-read-hold
-    mul-hold-2
-    sub-hold
-    part-hold-start
-    part-hold-end
-    mul-hold-3
-    sub-hold-2
-    part-hold-start-2
-    part-hold-end-2
-    hold-requires
-    add-used
-    loop-less
-    loop-again
-    same-length
-    same-length-2
-    returns)
+    (tie.spec Inv-loop μ-loop loop-holds (λ c κs. search needs) (λ c. omega arith) (λ c. omega arith) (λ c κs. search needs)
+    (λ c κs. search needs) (λ c. omega arith) (λ c. omega arith) (λ c. omega arith) (λ c. omega arith) (λ c. omega arith)
+    (λ c. omega arith) (λ c. omega arith) (λ c. omega arith) (λ c. omega arith) (λ c. omega arith) (λ c κs. omega arith) add-used
+    (λ c. omega arith) loop-again (λ c. omega arith) (λ c. omega arith) returns)

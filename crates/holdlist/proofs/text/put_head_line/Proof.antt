@@ -6,30 +6,6 @@ use borrow.Author.Needs.{needs}
 use Rattle.holdlist.proofs.text.put_head_line.Statement.{statement}
 use Rattle.holdlist.proofs.text.put_head_line.Tie as tie
 
-slice-aggregate-put : tie.Need-slice-aggregate-put
-slice-aggregate-put c = search needs
-
-put-requires : tie.Need-put-requires
-put-requires c κs = search needs
-
-put-decimal-requires : tie.Need-put-decimal-requires
-put-decimal-requires c κs = search needs
-
-slice-aggregate-put-2 : tie.Need-slice-aggregate-put-2
-slice-aggregate-put-2 c = search needs
-
-put-requires-2 : tie.Need-put-requires-2
-put-requires-2 c κs = search needs
-
-put-decimal-requires-2 : tie.Need-put-decimal-requires-2
-put-decimal-requires-2 c κs = search needs
-
-put-byte-requires : tie.Need-put-byte-requires
-put-byte-requires c κs = search needs
-
-same-length : tie.Need-same-length
-same-length c = search needs
-
 returns : tie.Need-returns
 unfolding headLine
 returns c =
@@ -38,18 +14,10 @@ returns c =
     let r = s .before .before .before .before in
     let q = r .before .before .before .before .before in
     let p = q .before .before .before .before in
-    puts-more (puts-more (puts-more (puts-more (p .put .ensures) (q .put-decimal .ensures)) (r .put2 .ensures)) (s .put-decimal2 .ensures)) (t .put-byte .ensures)
+    puts-more (puts-more (puts-more (puts-more (p .put-bytes .ensures) (q .put-decimal .ensures)) (r .put-bytes2 .ensures)) (s .put-decimal2 .ensures)) (t .put-byte .ensures)
 
 pub put-head-line-spec : {M : Type 1} → statement M
 put-head-line-spec =
     tie.close
-    (tie.spec
-    slice-aggregate-put
-    put-requires
-    put-decimal-requires
-    slice-aggregate-put-2
-    put-requires-2
-    put-decimal-requires-2
-    put-byte-requires
-    same-length
-    returns)
+    (tie.spec (λ c. search needs) (λ c κs. search needs) (λ c κs. search needs) (λ c. search needs) (λ c κs. search needs)
+    (λ c κs. search needs) (λ c κs. search needs) (λ c. search needs) returns)

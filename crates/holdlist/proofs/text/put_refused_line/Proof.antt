@@ -6,27 +6,6 @@ use borrow.Author.Needs.{needs}
 use Rattle.holdlist.proofs.text.put_refused_line.Statement.{statement}
 use Rattle.holdlist.proofs.text.put_refused_line.Tie as tie
 
-slice-aggregate-put : tie.Need-slice-aggregate-put
-slice-aggregate-put c = search needs
-
-put-requires : tie.Need-put-requires
-put-requires c κs = search needs
-
-put-decimal-requires : tie.Need-put-decimal-requires
-put-decimal-requires c κs = search needs
-
-put-byte-requires : tie.Need-put-byte-requires
-put-byte-requires c κs = search needs
-
-put-decimal-requires-2 : tie.Need-put-decimal-requires-2
-put-decimal-requires-2 c κs = search needs
-
-put-byte-requires-2 : tie.Need-put-byte-requires-2
-put-byte-requires-2 c κs = search needs
-
-same-length : tie.Need-same-length
-same-length c = search needs
-
 returns : tie.Need-returns
 unfolding refusedLine
 returns c =
@@ -35,17 +14,10 @@ returns c =
     let r = s .before .before .before .before in
     let q = r .before .before .before .before in
     let p = q .before .before .before .before in
-    puts-more (puts-more (puts-more (puts-more (p .put .ensures) (q .put-decimal .ensures)) (r .put-byte .ensures)) (s .put-decimal2 .ensures)) (t .put-byte2 .ensures)
+    puts-more (puts-more (puts-more (puts-more (p .put-bytes .ensures) (q .put-decimal .ensures)) (r .put-byte .ensures)) (s .put-decimal2 .ensures)) (t .put-byte2 .ensures)
 
 pub put-refused-line-spec : {M : Type 1} → statement M
 put-refused-line-spec =
     tie.close
-    (tie.spec
-    slice-aggregate-put
-    put-requires
-    put-decimal-requires
-    put-byte-requires
-    put-decimal-requires-2
-    put-byte-requires-2
-    same-length
-    returns)
+    (tie.spec (λ c. search needs) (λ c κs. search needs) (λ c κs. search needs) (λ c κs. search needs) (λ c κs. search needs)
+    (λ c κs. search needs) (λ c. search needs) returns)

@@ -4,11 +4,5 @@ use borrow.Author.Tests.{eq-eqb, ne-eqb}
 use Rattle.level.proofs.lines.closes_at.Statement.{statement}
 use Rattle.level.proofs.lines.closes_at.Tie as tie
 
-returns : tie.Need-returns
-returns c = rw (eq-eqb _ _ (c .if1 .taken))
-
-returns-2 : tie.Need-returns-2
-returns-2 c = rw (ne-eqb _ _ (c .if1 .left))
-
 pub closes-at-spec : {M : Type 1} → statement M
-closes-at-spec = tie.close (tie.spec returns returns-2)
+closes-at-spec = tie.close (tie.spec (λ c. search eq-eqb) (λ c. search ne-eqb))

@@ -7,25 +7,6 @@ use borrow.Author.Needs.{needs}
 use Rattle.level.proofs.lines.line_of.Statement.{statement}
 use Rattle.level.proofs.lines.line_of.Tie as tie
 
-cast-if1 : tie.Need-cast-if1
-cast-if1 c = search needs
-
-no-line-requires : tie.Need-no-line-requires
-no-line-requires c κs = search needs
-
-returns : tie.Need-returns
-unfolding lineOf
-returns c = rw (le-ltb _ _ (c .before .if1 .taken)) (c .no-line .ensures)
-
-cast-line-in : tie.Need-cast-line-in
-cast-line-in c = search needs
-
-region-of-requires : tie.Need-region-of-requires
-region-of-requires c κs = search needs
-
-line-in-requires : tie.Need-line-in-requires
-line-in-requires c κs = search needs
-
 returns-2 : tie.Need-returns-2
 unfolding lineOf
 returns-2 c =
@@ -36,11 +17,6 @@ returns-2 c =
 pub line-of-spec : {M : Type 1} → statement M
 line-of-spec =
     tie.close
-    (tie.spec
-    cast-if1
-    no-line-requires
-    returns
-    cast-line-in
-    region-of-requires
-    line-in-requires
-    returns-2)
+    (tie.spec (λ c. search needs) (λ c κs. search needs)
+    (λ c. unfold lineOf in rw (le-ltb _ _ (c .before .if1 .taken)) (c .no-line .ensures)) (λ c. search needs)
+    (λ c κs. search needs) (λ c κs. search needs) returns-2)

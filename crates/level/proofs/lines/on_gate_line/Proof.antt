@@ -5,8 +5,5 @@ use Rattle.level.proofs.Words.{or-none}
 use Rattle.level.proofs.lines.on_gate_line.Statement.{statement}
 use Rattle.level.proofs.lines.on_gate_line.Tie as tie
 
-returns : tie.Need-returns
-returns c = sym (or-none _)
-
 pub on-gate-line-spec : {M : Type 1} → statement M
-on-gate-line-spec = tie.close (tie.spec returns)
+on-gate-line-spec = tie.close (tie.spec (λ c. sym (or-none _)))

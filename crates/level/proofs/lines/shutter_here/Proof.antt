@@ -6,13 +6,10 @@ use Rattle.level.proofs.lines.shutter_here.Statement.{statement}
 use Rattle.level.proofs.lines.shutter_here.Tie as tie
 
 returns : tie.Need-returns
-returns c = let s = c .before .before .args .shutter in rw (not-true (s .present) (c .if1 .taken))
-
-opens-at-requires : tie.Need-opens-at-requires
-opens-at-requires c κs = search needs
-
-closes-at-requires : tie.Need-closes-at-requires
-closes-at-requires c κs = search needs
+returns c =
+    let e = c .before in
+    let s = e .before .before .args .shutter in
+    rw (not-true (s .present) (e .if1 .taken)) (c .absent-span .ensures)
 
 returns-2 : tie.Need-returns-2
 returns-2 c =
@@ -29,4 +26,5 @@ returns-3 c =
 
 pub shutter-here-spec : {M : Type 1} → statement M
 shutter-here-spec =
-    tie.close (tie.spec returns opens-at-requires closes-at-requires returns-2 returns-3)
+    tie.close
+    (tie.spec (λ c κs. search needs) returns (λ c κs. search needs) (λ c κs. search needs) returns-2 returns-3)

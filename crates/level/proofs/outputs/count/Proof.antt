@@ -8,12 +8,6 @@ use Rattle.level.proofs.Counting.{run-far, times-far}
 use Rattle.level.proofs.outputs.count.Statement.{statement}
 use Rattle.level.proofs.outputs.count.Tie as tie
 
-region-pixel-requires : tie.Need-region-pixel-requires
-region-pixel-requires c κs = search needs
-
-times-requires : tie.Need-times-requires
-times-requires c κs = search needs
-
 returns : tie.Need-returns
 unfolding firstCount
 returns c =
@@ -21,9 +15,6 @@ returns c =
     let f = b .before .args .f in
     rw (c .before .if1 .taken)
     (c .times .ensures ∙ ap (timesCount (f .start) (f .length)) (b .region-pixel .ensures) ∙ times-far (f .start) (f .length) _ (search needs) (search needs))
-
-run-requires : tie.Need-run-requires
-run-requires c κs = search needs
 
 returns-2 : tie.Need-returns-2
 unfolding firstCount
@@ -36,5 +27,4 @@ returns-2 c =
     ∙ run-far (f .start) (f .length) (f .repetitions) _ (search needs) (search needs) (search needs))
 
 pub count-spec : {M : Type 1} → statement M
-count-spec =
-    tie.close (tie.spec region-pixel-requires times-requires returns run-requires returns-2)
+count-spec = tie.close (tie.spec (λ c κs. search needs) (λ c κs. search needs) returns (λ c κs. search needs) returns-2)

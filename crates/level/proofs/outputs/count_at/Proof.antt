@@ -7,22 +7,13 @@ use Rattle.profile.proofs.Laws.{and-right}
 use Rattle.level.proofs.outputs.count_at.Statement.{statement}
 use Rattle.level.proofs.outputs.count_at.Tie as tie
 
-cast-count-to : tie.Need-cast-count-to
-cast-count-to c = search needs
-
 sub-count-to : tie.Need-sub-count-to
 sub-count-to c =
     let s = c .before .before .before in
     leb-true _ _ (and-right (s .args .r .second .acts) _ (sym (s .pre) ∙ c .before .before .if1 .taken))
 
-count-to-requires : tie.Need-count-to-requires
-count-to-requires c κs = search needs
-
 returns : tie.Need-returns
 returns c = rw (c .before .before .before .if1 .taken) (c .count-to .ensures)
-
-count-requires : tie.Need-count-requires
-count-requires c κs = search needs
 
 returns-2 : tie.Need-returns-2
 returns-2 c = rw (c .before .before .if1 .left) (c .count .ensures)
@@ -30,4 +21,4 @@ returns-2 c = rw (c .before .before .if1 .left) (c .count .ensures)
 pub count-at-spec : {M : Type 1} → statement M
 count-at-spec =
     tie.close
-    (tie.spec cast-count-to sub-count-to count-to-requires returns count-requires returns-2)
+    (tie.spec (λ c. search needs) sub-count-to (λ c κs. search needs) returns (λ c κs. search needs) returns-2)

@@ -5,17 +5,8 @@ use borrow.Author.Needs.{needs}
 use Rattle.level.proofs.outputs.count_to.Statement.{statement}
 use Rattle.level.proofs.outputs.count_to.Tie as tie
 
-add-result : tie.Need-add-result
-add-result c = search needs
-
-cast-result : tie.Need-cast-result
-cast-result c = search needs
-
 returns : tie.Need-returns
 returns c = simp (lt-ltb _ _ (c .if1 .taken))
-
-cast-result-2 : tie.Need-cast-result-2
-cast-result-2 c = search needs
 
 returns-2 : tie.Need-returns-2
 returns-2 c = simp (le-ltb _ _ (c .before .if1 .left), lt-ltb _ _ (c .if2 .taken))
@@ -24,5 +15,4 @@ returns-3 : tie.Need-returns-3
 returns-3 c = simp (le-ltb _ _ (c .before .if1 .left), le-ltb _ _ (c .if2 .left))
 
 pub count-to-spec : {M : Type 1} → statement M
-count-to-spec =
-    tie.close (tie.spec add-result cast-result returns cast-result-2 returns-2 returns-3)
+count-to-spec = tie.close (tie.spec (λ c. search needs) (λ c. search needs) returns (λ c. search needs) returns-2 returns-3)

@@ -5,11 +5,8 @@ use borrow.Author.Needs.{needs}
 use Rattle.level.proofs.outputs.covers.Statement.{statement}
 use Rattle.level.proofs.outputs.covers.Tie as tie
 
-returns : tie.Need-returns
-returns c = search needs
-
 returns-2 : tie.Need-returns-2
 returns-2 c = λ t. absurd (false≢true t)
 
 pub covers-spec : {M : Type 1} → statement M
-covers-spec = tie.close (tie.spec returns returns-2)
+covers-spec = tie.close (tie.spec (λ c. search needs) returns-2)

@@ -11,9 +11,6 @@ returns c =
     let a = c .before .args in
     (omega arith, λ q from to. edge-passed (a .x) (a .p) q (c .if1 .taken) from)
 
-sub-result : tie.Need-sub-result
-sub-result c = search needs
-
 returns-2 : tie.Need-returns-2
 returns-2 c =
     let a = c .before .before .args in
@@ -25,4 +22,4 @@ returns-3 c =
     (omega arith, λ q from to. edge-ahead (a .x) (a .p) q from (omega arith))
 
 pub edge-bound-spec : {M : Type 1} → statement M
-edge-bound-spec = tie.close (tie.spec returns sub-result returns-2 returns-3)
+edge-bound-spec = tie.close (tie.spec returns (λ c. search needs) returns-2 returns-3)

@@ -12,15 +12,6 @@ use Rattle.level.specs.Word.{wordOf}
 use Rattle.level.proofs.outputs.fill.Statement.{statement}
 use Rattle.level.proofs.outputs.fill.Tie as tie
 
-prepare-requires : tie.Need-prepare-requires
-prepare-requires c κs = search needs
-
-words-requires : tie.Need-words-requires
-words-requires c κs = search needs
-
-same-length : tie.Need-same-length
-same-length c = search needs
-
 returns : tie.Need-returns
 unfolding lineWords
 returns c =
@@ -31,4 +22,4 @@ returns c =
     (λ p h. ap (λ w. w ∷ []) (ap (readyWord (r .result)) (zero-add p) ∙ r .ensures p))
 
 pub fill-spec : {M : Type 1} → statement M
-fill-spec = tie.close (tie.spec prepare-requires words-requires same-length returns)
+fill-spec = tie.close (tie.spec (λ c κs. search needs) (λ c κs. search needs) (λ c. search needs) returns)

@@ -7,24 +7,6 @@ use Rattle.level.specs.Ready.{runWord, timesWord, firstWord}
 use Rattle.level.proofs.outputs.first_of.Statement.{statement}
 use Rattle.level.proofs.outputs.first_of.Tie as tie
 
-enum-told : tie.Need-enum-told
-enum-told c = search needs
-
-run-first-requires : tie.Need-run-first-requires
-run-first-requires c κs = search needs
-
-enum-told-2 : tie.Need-enum-told-2
-enum-told-2 c = search needs
-
-run-first-requires-2 : tie.Need-run-first-requires-2
-run-first-requires-2 c κs = search needs
-
-enum-told-3 : tie.Need-enum-told-3
-enum-told-3 c = search needs
-
-times-first-requires : tie.Need-times-first-requires
-times-first-requires c κs = search needs
-
 returns : tie.Need-returns
 unfolding firstWord runWord
 returns c =
@@ -42,13 +24,5 @@ returns-3 c = rw (c .before .enum-told3 .given .1) (c .times-first .ensures)
 pub first-of-spec : {M : Type 1} → statement M
 first-of-spec =
     tie.close
-    (tie.spec
-    enum-told
-    run-first-requires
-    enum-told-2
-    run-first-requires-2
-    enum-told-3
-    times-first-requires
-    returns
-    returns-2
-    returns-3)
+    (tie.spec (λ c. search needs) (λ c κs. search needs) (λ c. search needs) (λ c κs. search needs) (λ c. search needs)
+    (λ c κs. search needs) returns returns-2 returns-3)

@@ -5,11 +5,8 @@ use borrow.Author.Needs.{needs}
 use Rattle.level.proofs.outputs.held_pixel.Statement.{statement}
 use Rattle.level.proofs.outputs.held_pixel.Tie as tie
 
-cast-result : tie.Need-cast-result
-cast-result c = search needs
-
 returns : tie.Need-returns
 returns c = refl
 
 pub held-pixel-spec : {M : Type 1} → statement M
-held-pixel-spec = tie.close (tie.spec cast-result returns)
+held-pixel-spec = tie.close (tie.spec (λ c. search needs) returns)

@@ -11,11 +11,8 @@ returns c = rw (c .if1 .taken)
 returns-2 : tie.Need-returns-2
 returns-2 c = simp (ne-eqb _ _ (c .before .if1 .left), lt-ltb _ _ (c .if2 .taken))
 
-sub-result : tie.Need-sub-result
-sub-result c = search needs
-
 returns-3 : tie.Need-returns-3
 returns-3 c = simp (ne-eqb _ _ (c .before .if1 .left), le-ltb _ _ (c .if2 .left))
 
 pub key-spec : {M : Type 1} → statement M
-key-spec = tie.close (tie.spec returns returns-2 sub-result returns-3)
+key-spec = tie.close (tie.spec returns returns-2 (λ c. search needs) returns-3)

@@ -19,21 +19,6 @@ abbrev μ-loop : tie.MeasureT-loop
 loop-holds : tie.Need-loop-holds Inv-loop μ-loop
 loop-holds c = (omega arith, λ j h. absurd (omega arith))
 
-mul-key-bound : tie.Need-mul-key-bound Inv-loop μ-loop
-mul-key-bound c = search needs
-
-array-read-key-bound : tie.Need-array-read-key-bound Inv-loop μ-loop
-array-read-key-bound c = search needs
-
-key-bound-requires : tie.Need-key-bound-requires Inv-loop μ-loop
-key-bound-requires c κs = search needs
-
-add-k : tie.Need-add-k Inv-loop μ-loop
-add-k c = search needs
-
-loop-less : tie.Need-loop-less Inv-loop μ-loop
-loop-less c = omega arith
-
 loop-again : tie.Need-loop-again Inv-loop μ-loop
 loop-again c =
     let l = c .before .before .loop in
@@ -49,14 +34,5 @@ returns c =
 pub last-count-spec : {M : Type 1} → statement M
 last-count-spec =
     tie.close
-    (tie.spec
-    Inv-loop
-    μ-loop
-    loop-holds
-    mul-key-bound
-    array-read-key-bound
-    key-bound-requires
-    add-k
-    loop-less
-    loop-again
-    returns)
+    (tie.spec Inv-loop μ-loop loop-holds (λ c. search needs) (λ c. search needs) (λ c κs. search needs) (λ c. search needs)
+    (λ c. omega arith) loop-again returns)

@@ -18,21 +18,6 @@ abbrev μ-loop : tie.MeasureT-loop
 loop-holds : tie.Need-loop-holds Inv-loop μ-loop
 loop-holds c = (omega arith, λ j h. absurd (omega arith))
 
-mul-level-bound : tie.Need-mul-level-bound Inv-loop μ-loop
-mul-level-bound c = search needs
-
-array-copy-out-level-bound : tie.Need-array-copy-out-level-bound Inv-loop μ-loop
-array-copy-out-level-bound c = search needs
-
-level-bound-requires : tie.Need-level-bound-requires Inv-loop μ-loop
-level-bound-requires c κs = search needs
-
-add-k : tie.Need-add-k Inv-loop μ-loop
-add-k c = search needs
-
-loop-less : tie.Need-loop-less Inv-loop μ-loop
-loop-less c = omega arith
-
 loop-again : tie.Need-loop-again Inv-loop μ-loop
 loop-again c =
     let l = c .before .before .before .loop in
@@ -48,14 +33,5 @@ returns c =
 pub last-pixel-spec : {M : Type 1} → statement M
 last-pixel-spec =
     tie.close
-    (tie.spec
-    Inv-loop
-    μ-loop
-    loop-holds
-    mul-level-bound
-    array-copy-out-level-bound
-    level-bound-requires
-    add-k
-    loop-less
-    loop-again
-    returns)
+    (tie.spec Inv-loop μ-loop loop-holds (λ c. search needs) (λ c. search needs) (λ c κs. search needs) (λ c. search needs)
+    (λ c. omega arith) loop-again returns)

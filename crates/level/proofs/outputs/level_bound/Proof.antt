@@ -7,12 +7,6 @@ use Rattle.level.specs.Word.{bit, flipped}
 use Rattle.level.proofs.outputs.level_bound.Statement.{statement}
 use Rattle.level.proofs.outputs.level_bound.Tie as tie
 
-edge-bound-requires : tie.Need-edge-bound-requires
-edge-bound-requires c κs = search needs
-
-edge-bound-requires-2 : tie.Need-edge-bound-requires-2
-edge-bound-requires-2 c κs = search needs
-
 returns : tie.Need-returns
 returns c =
     let on = c .before .edge-bound .ensures in
@@ -25,4 +19,4 @@ returns c =
     )
 
 pub level-bound-spec : {M : Type 1} → statement M
-level-bound-spec = tie.close (tie.spec edge-bound-requires edge-bound-requires-2 returns)
+level-bound-spec = tie.close (tie.spec (λ c κs. search needs) (λ c κs. search needs) returns)

@@ -5,9 +5,6 @@ use borrow.Author.Needs.{needs}
 use Rattle.level.proofs.outputs.line_pixel.Statement.{statement}
 use Rattle.level.proofs.outputs.line_pixel.Tie as tie
 
-cast-result : tie.Need-cast-result
-cast-result c = search needs
-
 returns : tie.Need-returns
 returns c = simp (lt-ltb _ _ (c .if1 .taken))
 
@@ -15,4 +12,4 @@ returns-2 : tie.Need-returns-2
 returns-2 c = simp (le-ltb _ _ (c .if1 .left))
 
 pub line-pixel-spec : {M : Type 1} → statement M
-line-pixel-spec = tie.close (tie.spec cast-result returns returns-2)
+line-pixel-spec = tie.close (tie.spec (λ c. search needs) returns returns-2)

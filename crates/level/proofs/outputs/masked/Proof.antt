@@ -6,12 +6,6 @@ use Rattle.level.specs.Ready.{unmaskedAt}
 use Rattle.level.proofs.outputs.masked.Statement.{statement}
 use Rattle.level.proofs.outputs.masked.Tie as tie
 
-shown-requires : tie.Need-shown-requires
-shown-requires c κs = search needs
-
-unmasked-requires : tie.Need-unmasked-requires
-unmasked-requires c κs = search needs
-
 returns : tie.Need-returns
 returns c =
     let r = c .before .before .before .before .args .r in
@@ -19,4 +13,4 @@ returns c =
     (v .0, v .1 ∙ ap (unmaskedAt r) (c .before .shown .ensures))
 
 pub masked-spec : {M : Type 1} → statement M
-masked-spec = tie.close (tie.spec shown-requires unmasked-requires returns)
+masked-spec = tie.close (tie.spec (λ c κs. search needs) (λ c κs. search needs) returns)

@@ -6,20 +6,11 @@ use Rattle.level.proofs.Counting.{eight-stays}
 use Rattle.level.proofs.outputs.others.Statement.{statement}
 use Rattle.level.proofs.outputs.others.Tie as tie
 
-covers-requires : tie.Need-covers-requires
-covers-requires c κs = search needs
-
 returns : tie.Need-returns
 returns c =
     let s = c .before .before in
     let in-range = c .before .covers .ensures (c .if1 .taken) in
     (s .pre, sym (s .pre .same (s .args .p) (in-range .0) (in-range .1)))
-
-last-pixel-requires : tie.Need-last-pixel-requires
-last-pixel-requires c κs = search needs
-
-eight-requires : tie.Need-eight-requires
-eight-requires c κs = search needs
 
 returns-2 : tie.Need-returns-2
 returns-2 c =
@@ -29,5 +20,4 @@ returns-2 c =
     (record { small = e .1; same = λ q from to. eight-stays (a .t) (a .p) (l .result) q (l .ensures) from to ∙ sym (e .0) }, e .0)
 
 pub others-spec : {M : Type 1} → statement M
-others-spec =
-    tie.close (tie.spec covers-requires returns last-pixel-requires eight-requires returns-2)
+others-spec = tie.close (tie.spec (λ c κs. search needs) returns (λ c κs. search needs) (λ c κs. search needs) returns-2)

@@ -9,15 +9,6 @@ use Rattle.level.proofs.Counting.{unmasked-word, two-parts}
 use Rattle.level.proofs.outputs.prepare.Statement.{statement}
 use Rattle.level.proofs.outputs.prepare.Tie as tie
 
-first-of-requires : tie.Need-first-of-requires
-first-of-requires c κs = search needs
-
-second-of-requires : tie.Need-second-of-requires
-second-of-requires c κs = search needs
-
-others-of-requires : tie.Need-others-of-requires
-others-of-requires c κs = search needs
-
 returns : tie.Need-returns
 unfolding readyWord unmaskedAt
 returns c =
@@ -32,4 +23,4 @@ returns c =
     ∙ two-parts l p
 
 pub prepare-spec : {M : Type 1} → statement M
-prepare-spec = tie.close (tie.spec first-of-requires second-of-requires others-of-requires returns)
+prepare-spec = tie.close (tie.spec (λ c κs. search needs) (λ c κs. search needs) (λ c κs. search needs) returns)

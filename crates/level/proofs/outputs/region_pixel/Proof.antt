@@ -10,12 +10,6 @@ use Rattle.level.proofs.outputs.region_pixel.Tie as tie
 returns : tie.Need-returns
 returns c = let a = c .before .args in simp (le-ltb (a .origin + a .p) 4294967295 (omega arith))
 
-add-q : tie.Need-add-q
-add-q c = search needs
-
-cast-result : tie.Need-cast-result
-cast-result c = search needs
-
 returns-2 : tie.Need-returns-2
 returns-2 c = simp (lt-ltb _ _ (c .if2 .taken))
 
@@ -23,4 +17,4 @@ returns-3 : tie.Need-returns-3
 returns-3 c = simp (le-ltb _ _ (c .if2 .left))
 
 pub region-pixel-spec : {M : Type 1} → statement M
-region-pixel-spec = tie.close (tie.spec returns add-q cast-result returns-2 returns-3)
+region-pixel-spec = tie.close (tie.spec returns (λ c. search needs) (λ c. search needs) returns-2 returns-3)

@@ -12,9 +12,6 @@ use Rattle.level.proofs.outputs.run.Tie as tie
 returns : tie.Need-returns
 returns c = simp (lt-ltb _ _ (c .if1 .taken))
 
-run-length-requires : tie.Need-run-length-requires
-run-length-requires c κs = search needs
-
 rem-result : tie.Need-rem-result
 rem-result c =
     let a = c .before .before .before .args in
@@ -41,6 +38,4 @@ returns-3 c =
     simp (le-ltb _ _ (c .before .before .if1 .left), le-ltb (a .q - a .start) (a .r * a .length) (omega arith))
 
 pub run-spec : {M : Type 1} → statement M
-run-spec =
-    tie.close
-    (tie.spec returns run-length-requires rem-result add-result cast-result returns-2 returns-3)
+run-spec = tie.close (tie.spec returns (λ c κs. search needs) rem-result add-result cast-result returns-2 returns-3)

@@ -9,8 +9,5 @@ use Rattle.level.proofs.outputs.run_length.Tie as tie
 mul-result : tie.Need-mul-result
 mul-result c = omega (arith, product16 (c .args .r) (c .args .length) (search needs) (search needs))
 
-returns : tie.Need-returns
-returns c = search needs
-
 pub run-length-spec : {M : Type 1} → statement M
-run-length-spec = tie.close (tie.spec mul-result returns)
+run-length-spec = tie.close (tie.spec mul-result (λ c. search needs))

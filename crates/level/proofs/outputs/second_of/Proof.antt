@@ -13,9 +13,6 @@ use Rattle.level.proofs.Counting.{Small, second-word}
 use Rattle.level.proofs.outputs.second_of.Statement.{statement}
 use Rattle.level.proofs.outputs.second_of.Tie as tie
 
-keys-of-requires : tie.Need-keys-of-requires
-keys-of-requires c κs = search needs
-
 returns : tie.Need-returns
 unfolding secondAt secondWord
 returns c =
@@ -29,4 +26,4 @@ returns c =
     )
 
 pub second-of-spec : {M : Type 1} → statement M
-second-of-spec = tie.close (tie.spec keys-of-requires returns)
+second-of-spec = tie.close (tie.spec (λ c κs. search needs) returns)

@@ -5,20 +5,8 @@ use borrow.Author.Needs.{needs}
 use Rattle.level.proofs.outputs.shown.Statement.{statement}
 use Rattle.level.proofs.outputs.shown.Tie as tie
 
-holds-requires : tie.Need-holds-requires
-holds-requires c κs = search needs
-
-held-pixel-requires : tie.Need-held-pixel-requires
-held-pixel-requires c κs = search needs
-
 returns : tie.Need-returns
 returns c = rw (sym (c .before .before .holds .ensures) ∙ c .before .if1 .taken) (c .held-pixel .ensures)
-
-holds-requires-2 : tie.Need-holds-requires-2
-holds-requires-2 c κs = search needs
-
-held-pixel-requires-2 : tie.Need-held-pixel-requires-2
-held-pixel-requires-2 c κs = search needs
 
 returns-2 : tie.Need-returns-2
 returns-2 c =
@@ -34,11 +22,5 @@ returns-3 c =
 pub shown-spec : {M : Type 1} → statement M
 shown-spec =
     tie.close
-    (tie.spec
-    holds-requires
-    held-pixel-requires
-    returns
-    holds-requires-2
-    held-pixel-requires-2
-    returns-2
+    (tie.spec (λ c κs. search needs) (λ c κs. search needs) returns (λ c κs. search needs) (λ c κs. search needs) returns-2
     returns-3)

@@ -7,15 +7,6 @@ use Rattle.level.proofs.Counting.{six-stays}
 use Rattle.level.proofs.outputs.six_from.Statement.{statement}
 use Rattle.level.proofs.outputs.six_from.Tie as tie
 
-last-count-requires : tie.Need-last-count-requires
-last-count-requires c κs = search needs
-
-rows-of-requires : tie.Need-rows-of-requires
-rows-of-requires c κs = search needs
-
-six-requires : tie.Need-six-requires
-six-requires c κs = search needs
-
 returns : tie.Need-returns
 returns c =
     let a = c .before .before .before .args in
@@ -29,4 +20,4 @@ returns c =
     )
 
 pub six-from-spec : {M : Type 1} → statement M
-six-from-spec = tie.close (tie.spec last-count-requires rows-of-requires six-requires returns)
+six-from-spec = tie.close (tie.spec (λ c κs. search needs) (λ c κs. search needs) (λ c κs. search needs) returns)

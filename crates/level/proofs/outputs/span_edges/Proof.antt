@@ -9,9 +9,6 @@ use Rattle.level.proofs.Counting.{edges-act, edges-rest, span-turns, sp
 use Rattle.level.proofs.outputs.span_edges.Statement.{statement}
 use Rattle.level.proofs.outputs.span_edges.Tie as tie
 
-add-level : tie.Need-add-level
-add-level c = search needs
-
 returns : tie.Need-returns
 returns c =
     let s = c .before .before .before .args .s in
@@ -24,4 +21,4 @@ returns-2 c =
     λ p. edges-rest (s .level % 2 + 1) (leb 0 (upTo 65535 p)) ∙ span-none (s .level) (s .from) (s .to) p (c .if1 .left)
 
 pub span-edges-spec : {M : Type 1} → statement M
-span-edges-spec = tie.close (tie.spec add-level returns returns-2)
+span-edges-spec = tie.close (tie.spec (λ c. search needs) returns returns-2)

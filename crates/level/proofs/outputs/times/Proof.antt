@@ -15,20 +15,13 @@ returns c = simp (lt-ltb _ _ (c .if1 .taken))
 returns-2 : tie.Need-returns-2
 returns-2 c = simp (le-ltb _ _ (c .before .if1 .left), eq-eqb _ _ (c .if2 .taken))
 
-div-count-to : tie.Need-div-count-to
-div-count-to c = search needs
-
 cast-count-to : tie.Need-cast-count-to
 cast-count-to c =
     let a = c .before .before .args in
     omega (arith, div-le-self (a .q - a .start) (a .length))
 
-count-to-requires : tie.Need-count-to-requires
-count-to-requires c κs = search needs
-
 returns-3 : tie.Need-returns-3
 returns-3 c = c .count-to .ensures ∙ simp (le-ltb _ _ (c .before .before .if1 .left), ne-eqb _ _ (c .before .if2 .left))
 
 pub times-spec : {M : Type 1} → statement M
-times-spec =
-    tie.close (tie.spec returns returns-2 div-count-to cast-count-to count-to-requires returns-3)
+times-spec = tie.close (tie.spec returns returns-2 (λ c. search needs) cast-count-to (λ c κs. search needs) returns-3)

@@ -13,9 +13,6 @@ use Rattle.level.proofs.Counting.{Small, times-word}
 use Rattle.level.proofs.outputs.times_first.Statement.{statement}
 use Rattle.level.proofs.outputs.times_first.Tie as tie
 
-keys-of-requires : tie.Need-keys-of-requires
-keys-of-requires c κs = search needs
-
 returns : tie.Need-returns
 unfolding firstAt firstCount timesWord
 returns c =
@@ -26,4 +23,4 @@ returns c =
     ∙ times-word (a .a) small (a .start) (a .origin + p)
 
 pub times-first-spec : {M : Type 1} → statement M
-times-first-spec = tie.close (tie.spec keys-of-requires returns)
+times-first-spec = tie.close (tie.spec (λ c κs. search needs) returns)

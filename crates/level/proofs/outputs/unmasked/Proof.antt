@@ -7,18 +7,6 @@ use Rattle.level.proofs.Counting.{side-shows}
 use Rattle.level.proofs.outputs.unmasked.Statement.{statement}
 use Rattle.level.proofs.outputs.unmasked.Tie as tie
 
-begun-requires : tie.Need-begun-requires
-begun-requires c κs = search needs
-
-count-at-requires : tie.Need-count-at-requires
-count-at-requires c κs = search needs
-
-alike-requires : tie.Need-alike-requires
-alike-requires c κs = search needs
-
-covers-requires : tie.Need-covers-requires
-covers-requires c κs = search needs
-
 returns : tie.Need-returns
 returns c =
     let n = c .before .before .before .before .before .count-at in
@@ -31,9 +19,6 @@ returns c =
           ∙ side-shows (s .args .r) (s .args .p) (n .result) (b .result) (b .ensures) (n .ensures),
     )
 
-side-from-requires : tie.Need-side-from-requires
-side-from-requires c κs = search needs
-
 returns-2 : tie.Need-returns-2
 returns-2 c =
     let n = c .before .before .before .before .count-at in
@@ -45,11 +30,5 @@ returns-2 c =
 pub unmasked-spec : {M : Type 1} → statement M
 unmasked-spec =
     tie.close
-    (tie.spec
-    begun-requires
-    count-at-requires
-    alike-requires
-    covers-requires
-    returns
-    side-from-requires
-    returns-2)
+    (tie.spec (λ c κs. search needs) (λ c κs. search needs) (λ c κs. search needs) (λ c κs. search needs) returns
+    (λ c κs. search needs) returns-2)

@@ -11,18 +11,6 @@ use Rattle.level.specs.Ready.{readyWord}
 use Rattle.level.proofs.outputs.word_of.Statement.{statement}
 use Rattle.level.proofs.outputs.word_of.Tie as tie
 
-prepare-requires : tie.Need-prepare-requires
-prepare-requires c κs = search needs
-
-slice-aggregate-words : tie.Need-slice-aggregate-words
-slice-aggregate-words c = search needs
-
-words-requires : tie.Need-words-requires
-words-requires c κs = search needs
-
-array-read-result : tie.Need-array-read-result
-array-read-result c = search needs
-
 returns : tie.Need-returns
 returns c =
     let r = c .before .before .before .prepare in
@@ -33,6 +21,4 @@ returns c =
     ∙ r .ensures pixel
 
 pub word-of-spec : {M : Type 1} → statement M
-word-of-spec =
-    tie.close
-    (tie.spec prepare-requires slice-aggregate-words words-requires array-read-result returns)
+word-of-spec = tie.close (tie.spec (λ c κs. search needs) (λ c. search needs) (λ c κs. search needs) (λ c. search needs) returns)

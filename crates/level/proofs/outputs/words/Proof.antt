@@ -32,29 +32,8 @@ loop-holds c = (
   record { small = omega arith; same = λ n from to. absurd (omega arith) },
 )
 
-add-p : tie.Need-add-p Inv-loop μ-loop
-add-p c = search needs
-
-masked-requires : tie.Need-masked-requires Inv-loop μ-loop
-masked-requires c κs = search needs
-
-line-pixel-requires : tie.Need-line-pixel-requires Inv-loop μ-loop
-line-pixel-requires c κs = search needs
-
-others-requires : tie.Need-others-requires Inv-loop μ-loop
-others-requires c κs = search needs
-
 join-requires : tie.Need-join-requires Inv-loop μ-loop
 join-requires c κs = (c .before .before .before .masked .ensures .0 .small, c .before .others .ensures .0 .small)
-
-mul-out : tie.Need-mul-out Inv-loop μ-loop
-mul-out c = search needs
-
-slice-write-out : tie.Need-slice-write-out Inv-loop μ-loop
-slice-write-out c = search needs
-
-add-i : tie.Need-add-i Inv-loop μ-loop
-add-i c = search needs
 
 loop-less : tie.Need-loop-less Inv-loop μ-loop
 loop-less c = simp length-set (omega arith)
@@ -76,9 +55,6 @@ loop-again c =
       e .others .ensures .0,
     )
 
-same-length : tie.Need-same-length Inv-loop μ-loop
-same-length c = search needs
-
 returns : tie.Need-returns Inv-loop μ-loop
 returns c =
     let l = c .before .loop in
@@ -90,19 +66,5 @@ returns c =
 pub words-spec : {M : Type 1} → statement M
 words-spec =
     tie.close
-    (tie.spec
-    Inv-loop
-    μ-loop
-    loop-holds
-    add-p
-    masked-requires
-    line-pixel-requires
-    others-requires
-    join-requires
-    mul-out
-    slice-write-out
-    add-i
-    loop-less
-    loop-again
-    same-length
-    returns)
+    (tie.spec Inv-loop μ-loop loop-holds (λ c. search needs) (λ c κs. search needs) (λ c κs. search needs) (λ c κs. search needs)
+    join-requires (λ c. search needs) (λ c. search needs) (λ c. search needs) loop-less loop-again (λ c. search needs) returns)

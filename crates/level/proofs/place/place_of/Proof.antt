@@ -6,7 +6,8 @@ use mathlib.Core.Path.{_≡_, ap, _∙_}
 use Rattle.profile.specs.Geometry.{pixelsBefore}
 use Rattle.profile.specs.declared.Verdict.{Verdict}
 use Rattle.profile.proofs.Lines.{before-none, before-more, before-all}
-use Rattle.level.proofs.Places.{located, placed, placed-here, placed-nowhere}
+use Rattle.level.specs.Place.{noPlace, placeAnswer}
+use Rattle.level.proofs.Places.{located, placed-here, placed-nowhere}
 use borrow.Author.Needs.{needs}
 use native.Mathlib.Omega.{arith}
 use Rattle.level.proofs.place.place_of.Statement.{statement}
@@ -18,20 +19,8 @@ Inv-loop tables field n lines line₀ left₀ line left = (line ≤ lines) × (l
 abbrev μ-loop : tie.MeasureT-loop
 μ-loop tables field n lines line₀ left₀ line left = lines - line
 
-cast-lines : tie.Need-cast-lines Inv-loop μ-loop
-cast-lines c = search needs
-
 loop-holds : tie.Need-loop-holds Inv-loop μ-loop
 loop-holds c = (omega arith, search needs, omega arith, let a = c .before .args in omega (arith, before-none (a .tables) (a .field)))
-
-line-length-requires : tie.Need-line-length-requires Inv-loop μ-loop
-line-length-requires c κs = search needs
-
-cast-length : tie.Need-cast-length Inv-loop μ-loop
-cast-length c = search needs
-
-accept-requires : tie.Need-accept-requires Inv-loop μ-loop
-accept-requires c κs = search needs
 
 returns : tie.Need-returns Inv-loop μ-loop
 returns c =
@@ -40,13 +29,7 @@ returns c =
     let a = l .before .before .args in
     ap (λ (v : Verdict). located v (l .loop .line) (l .loop .left)) (c .accept .ensures)
     ∙ placed-here (a .tables) (a .field) (l .loop .line) (l .loop .left) (omega arith) (omega (arith, k .line-length .ensures))
-    ∙ ap (placed (a .tables) (a .field)) (l .loop .inv .3)
-
-add-line : tie.Need-add-line Inv-loop μ-loop
-add-line c = search needs
-
-loop-less : tie.Need-loop-less Inv-loop μ-loop
-loop-less c = search needs
+    ∙ ap (placeAnswer (a .tables) (a .field)) (l .loop .inv .3)
 
 loop-again : tie.Need-loop-again Inv-loop μ-loop
 loop-again c =
@@ -55,31 +38,16 @@ loop-again c =
     let a = l .before .before .args in
     (omega arith, l .loop .inv .1, l .loop .inv .2, omega (arith, k .line-length .ensures, before-more (a .tables) (a .field) (l .loop .line)))
 
-refuse-requires : tie.Need-refuse-requires Inv-loop μ-loop
-refuse-requires c κs = search needs
-
 returns-2 : tie.Need-returns-2 Inv-loop μ-loop
 returns-2 c =
     let l = c .before .before in
     let a = l .before .before .args in
     let end : l .loop .line ≡ a .field .lines = omega arith in
-    ap (λ (v : Verdict). located v 0 0) (c .refuse .ensures)
+    ap noPlace (c .refuse .ensures)
     ∙ placed-nowhere (a .tables) (a .field) (a .n) (omega (arith, ap (pixelsBefore (a .tables) (a .field)) end, before-all (a .tables) (a .field)))
 
 pub place-of-spec : {M : Type 1} → statement M
 place-of-spec =
     tie.close
-    (tie.spec
-    Inv-loop
-    μ-loop
-    cast-lines
-    loop-holds
-    line-length-requires
-    cast-length
-    accept-requires
-    returns
-    add-line
-    loop-less
-    loop-again
-    refuse-requires
-    returns-2)
+    (tie.spec Inv-loop μ-loop (λ c. search needs) loop-holds (λ c κs. search needs) (λ c. search needs) (λ c κs. search needs)
+    returns (λ c. search needs) (λ c. search needs) loop-again (λ c κs. search needs) returns-2)

@@ -14,18 +14,6 @@ returns : tie.Need-returns
 unfolding endLine
 returns c = let a = c .before .args in rw (le-ltb (a .i + 1) (regionCount (a .field)) (omega arith))
 
-add-if2 : tie.Need-add-if2
-add-if2 c = search needs
-
-region-count-requires : tie.Need-region-count-requires
-region-count-requires c κs = search needs
-
-add-region-at : tie.Need-add-region-at
-add-region-at c = search needs
-
-region-at-requires : tie.Need-region-at-requires
-region-at-requires c κs = search needs
-
 returns-2 : tie.Need-returns-2
 unfolding endLine
 returns-2 c =
@@ -40,11 +28,4 @@ returns-3 c = rw (le-ltb _ _ (rw (c .before .region-count .ensures .0) at (c .if
 pub end-line-spec : {M : Type 1} → statement M
 end-line-spec =
     tie.close
-    (tie.spec
-    returns
-    add-if2
-    region-count-requires
-    add-region-at
-    region-at-requires
-    returns-2
-    returns-3)
+    (tie.spec returns (λ c. search needs) (λ c κs. search needs) (λ c. search needs) (λ c κs. search needs) returns-2 returns-3)

@@ -7,19 +7,13 @@ use borrow.Author.Needs.{needs}
 use Rattle.profile.proofs.geometry.length_in.Statement.{statement}
 use Rattle.profile.proofs.geometry.length_in.Tie as tie
 
-is-last-requires : tie.Need-is-last-requires
-is-last-requires c κs = search needs
-
 returns : tie.Need-returns
 unfolding lengthIn
 returns c = rw (sym (c .before .is-last .ensures) ∙ c .if1 .taken)
-
-sequence-at-requires : tie.Need-sequence-at-requires
-sequence-at-requires c κs = search needs
 
 returns-2 : tie.Need-returns-2
 unfolding lengthIn
 returns-2 c = rw (sym (c .before .before .is-last .ensures) ∙ c .before .if1 .left) (ap (λ (s : Sequence). s .length) (c .sequence-at .ensures))
 
 pub length-in-spec : {M : Type 1} → statement M
-length-in-spec = tie.close (tie.spec is-last-requires returns sequence-at-requires returns-2)
+length-in-spec = tie.close (tie.spec (λ c κs. search needs) returns (λ c κs. search needs) returns-2)

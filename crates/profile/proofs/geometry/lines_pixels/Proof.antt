@@ -12,24 +12,9 @@ use Rattle.profile.proofs.geometry.lines_pixels.Tie as tie
 returns : tie.Need-returns
 returns c = (product-none _ _ _ _ _ (c .if1 .taken), omega arith)
 
-sub-n : tie.Need-sub-n
-sub-n c = search needs
-
-sub-product : tie.Need-sub-product
-sub-product c = search needs
-
-product-requires : tie.Need-product-requires
-product-requires c κs = search needs
-
-add-result : tie.Need-add-result
-add-result c = search needs
-
 returns-2 : tie.Need-returns-2
 unfolding productPixels
 returns-2 c = (rw (c .before .if2 .taken) (ap (λ (n : ℕ). n + c .before .before .before .args .last) (c .product .ensures .0)), omega arith)
-
-product-requires-2 : tie.Need-product-requires-2
-product-requires-2 c κs = search needs
 
 returns-3 : tie.Need-returns-3
 unfolding productPixels
@@ -38,12 +23,5 @@ returns-3 c = (rw (c .before .if2 .left) (c .product2 .ensures .0), omega arith)
 pub lines-pixels-spec : {M : Type 1} → statement M
 lines-pixels-spec =
     tie.close
-    (tie.spec
-    returns
-    sub-n
-    sub-product
-    product-requires
-    add-result
-    returns-2
-    product-requires-2
-    returns-3)
+    (tie.spec returns (λ c. search needs) (λ c. search needs) (λ c κs. search needs) (λ c. search needs) returns-2
+    (λ c κs. search needs) returns-3)

@@ -16,26 +16,8 @@ Inv-loop tables field lines line₀ pixels₀ line pixels =
 abbrev μ-loop : tie.MeasureT-loop
 μ-loop tables field lines line₀ pixels₀ line pixels = lines - line
 
-cast-lines : tie.Need-cast-lines Inv-loop μ-loop
-cast-lines c = search needs
-
 loop-holds : tie.Need-loop-holds Inv-loop μ-loop
 loop-holds c = (omega arith, search needs, omega arith, sym (before-none _ _), omega arith)
-
-line-length-requires : tie.Need-line-length-requires Inv-loop μ-loop
-line-length-requires c κs = search needs
-
-cast-pixels : tie.Need-cast-pixels Inv-loop μ-loop
-cast-pixels c = search needs
-
-add-pixels : tie.Need-add-pixels Inv-loop μ-loop
-add-pixels c = search needs
-
-add-line : tie.Need-add-line Inv-loop μ-loop
-add-line c = search needs
-
-loop-less : tie.Need-loop-less Inv-loop μ-loop
-loop-less c = search needs
 
 loop-again : tie.Need-loop-again Inv-loop μ-loop
 loop-again c =
@@ -53,15 +35,5 @@ returns c =
 pub pixel-count-spec : {M : Type 1} → statement M
 pixel-count-spec =
     tie.close
-    (tie.spec
-    Inv-loop
-    μ-loop
-    cast-lines
-    loop-holds
-    line-length-requires
-    cast-pixels
-    add-pixels
-    add-line
-    loop-less
-    loop-again
-    returns)
+    (tie.spec Inv-loop μ-loop (λ c. search needs) loop-holds (λ c κs. search needs) (λ c. search needs) (λ c. search needs)
+    (λ c. search needs) (λ c. search needs) loop-again returns)

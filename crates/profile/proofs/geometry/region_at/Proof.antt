@@ -8,18 +8,6 @@ use native.Mathlib.Omega.{arith}
 use Rattle.profile.proofs.geometry.region_at.Statement.{statement}
 use Rattle.profile.proofs.geometry.region_at.Tie as tie
 
-mul-result : tie.Need-mul-result
-mul-result c = search needs
-
-element-copy-out-result : tie.Need-element-copy-out-result
-element-copy-out-result c = search needs
-
-returns : tie.Need-returns
-returns c = search needs
-
-empty-region-requires : tie.Need-empty-region-requires
-empty-region-requires c κs = search needs
-
 returns-2 : tie.Need-returns-2
 returns-2 c =
     let f = c .before .before .args .t1 in
@@ -27,5 +15,4 @@ returns-2 c =
     c .empty-region .ensures ∙ sym (List·getD-eq-default (f .regions) _ (omega (arith, c .before .if1 .left)))
 
 pub region-at-spec : {M : Type 1} → statement M
-region-at-spec =
-    tie.close (tie.spec mul-result element-copy-out-result returns empty-region-requires returns-2)
+region-at-spec = tie.close (tie.spec (λ c. search needs) (λ c. search needs) (λ c. search needs) (λ c κs. search needs) returns-2)

@@ -17,21 +17,9 @@ Inv-loop field line i₀ i = (i ≤ 7) × (lastStart (firstLine field) i line �
 abbrev μ-loop : tie.MeasureT-loop
 μ-loop field line i₀ i = i
 
-region-count-requires : tie.Need-region-count-requires Inv-loop μ-loop
-region-count-requires c κs = search needs
-
 loop-holds : tie.Need-loop-holds Inv-loop μ-loop
 unfolding regionOf
 loop-holds c = (c .region-count .ensures .1, ap (λ n. lastStart (firstLine (c .before .args .field)) n (c .before .args .line)) (c .region-count .ensures .0))
-
-sub-i : tie.Need-sub-i Inv-loop μ-loop
-sub-i c = search needs
-
-region-at-requires : tie.Need-region-at-requires Inv-loop μ-loop
-region-at-requires c κs = search needs
-
-cast-if1 : tie.Need-cast-if1 Inv-loop μ-loop
-cast-if1 c = search needs
 
 returns : tie.Need-returns Inv-loop μ-loop
 returns c =
@@ -39,9 +27,6 @@ returns c =
     let f = l .before .before .args .field in
     let e = ap (λ (r : Region). r .first) (c .before .before .region-at .ensures) in
     (sym (last-here (firstLine f) _ _ (c .before .before .before .loop-test .taken) (rw e at (c .if1 .taken))) ∙ l .loop .inv .1, omega arith)
-
-loop-less : tie.Need-loop-less Inv-loop μ-loop
-loop-less c = search needs
 
 loop-again : tie.Need-loop-again Inv-loop μ-loop
 loop-again c =
@@ -56,15 +41,5 @@ returns-2 c = (sym (last-none _ _ _ (c .loop-test .left)) ∙ c .before .loop .i
 pub region-of-spec : {M : Type 1} → statement M
 region-of-spec =
     tie.close
-    (tie.spec
-    Inv-loop
-    μ-loop
-    region-count-requires
-    loop-holds
-    sub-i
-    region-at-requires
-    cast-if1
-    returns
-    loop-less
-    loop-again
-    returns-2)
+    (tie.spec Inv-loop μ-loop (λ c κs. search needs) loop-holds (λ c. search needs) (λ c κs. search needs) (λ c. search needs)
+    returns (λ c. search needs) loop-again returns-2)

@@ -6,15 +6,6 @@ use borrow.Author.Needs.{needs}
 use Rattle.profile.proofs.geometry.region_pixels.Statement.{statement}
 use Rattle.profile.proofs.geometry.region_pixels.Tie as tie
 
-region-at-requires : tie.Need-region-at-requires
-region-at-requires c κs = search needs
-
-sequence-at-requires : tie.Need-sequence-at-requires
-sequence-at-requires c κs = search needs
-
-lines-pixels-requires : tie.Need-lines-pixels-requires
-lines-pixels-requires c κs = search needs
-
 returns : tie.Need-returns
 returns c =
     let a = c .before .before .before .args in
@@ -22,5 +13,4 @@ returns c =
     (c .lines-pixels .ensures .0 ∙ rw (c .before .before .region-at .ensures, c .before .sequence-at .ensures) e, c .lines-pixels .ensures .1)
 
 pub region-pixels-spec : {M : Type 1} → statement M
-region-pixels-spec =
-    tie.close (tie.spec region-at-requires sequence-at-requires lines-pixels-requires returns)
+region-pixels-spec = tie.close (tie.spec (λ c κs. search needs) (λ c κs. search needs) (λ c κs. search needs) returns)

@@ -8,18 +8,6 @@ use native.Mathlib.Omega.{arith}
 use Rattle.profile.proofs.geometry.sequence_of.Statement.{statement}
 use Rattle.profile.proofs.geometry.sequence_of.Tie as tie
 
-mul-result : tie.Need-mul-result
-mul-result c = search needs
-
-element-copy-out-result : tie.Need-element-copy-out-result
-element-copy-out-result c = search needs
-
-returns : tie.Need-returns
-returns c = search needs
-
-empty-sequence-requires : tie.Need-empty-sequence-requires
-empty-sequence-requires c κs = search needs
-
 returns-2 : tie.Need-returns-2
 returns-2 c =
     let t = c .before .before .args .t1 in
@@ -29,4 +17,4 @@ returns-2 c =
 pub sequence-of-spec : {M : Type 1} → statement M
 sequence-of-spec =
     tie.close
-    (tie.spec mul-result element-copy-out-result returns empty-sequence-requires returns-2)
+    (tie.spec (λ c. search needs) (λ c. search needs) (λ c. search needs) (λ c κs. search needs) returns-2)

@@ -4,8 +4,5 @@ use Rattle.profile.proofs.Tested.{joined-all}
 use Rattle.profile.proofs.limits.shutter_in_range.Statement.{statement}
 use Rattle.profile.proofs.limits.shutter_in_range.Tie as tie
 
-returns : tie.Need-returns
-returns c = joined-all _ _
-
 pub shutter-in-range-spec : {M : Type 1} → statement M
-shutter-in-range-spec = tie.close (tie.spec returns)
+shutter-in-range-spec = tie.close (tie.spec (λ c. joined-all _ _))

@@ -4,8 +4,5 @@ use Rattle.profile.proofs.Tested.{joined-all}
 use Rattle.profile.proofs.limits.subck_in_range.Statement.{statement}
 use Rattle.profile.proofs.limits.subck_in_range.Tie as tie
 
-returns : tie.Need-returns
-returns c = joined-all _ _
-
 pub subck-in-range-spec : {M : Type 1} → statement M
-subck-in-range-spec = tie.close (tie.spec returns)
+subck-in-range-spec = tie.close (tie.spec (λ c. joined-all _ _))

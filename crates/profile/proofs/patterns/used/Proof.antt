@@ -3,26 +3,6 @@
 use borrow.Author.Needs.{needs}
 use Rattle.profile.proofs.patterns.used.Statement.{statement}
 use Rattle.profile.proofs.patterns.used.Tie as tie
-use Rattle.profile.proofs.patterns.used.Reads as reads
-use Rattle.profile.proofs.patterns.used.Lts as lts
-
-enum-told : tie.Need-enum-told
-enum-told c = search needs
-
-enum-told-2 : tie.Need-enum-told-2
-enum-told-2 c = search needs
-
-enum-told-3 : tie.Need-enum-told-3
-enum-told-3 c = search needs
-
-returns : tie.Need-returns
-returns c = rw (c .enum-told .given .1)
-
-returns-2 : tie.Need-returns-2
-returns-2 c = rw (c .enum-told2 .given .1)
-
-returns-3 : tie.Need-returns-3
-returns-3 c = rw (c .enum-told3 .given .1)
 
 pub used-spec : {M : Type 1} → statement M
-used-spec = tie.close (tie.spec enum-told enum-told-2 enum-told-3 returns returns-2 returns-3)
+used-spec = tie.close (tie.spec (λ c. search needs) (λ c. search needs) (λ c. search needs) (λ c. cc) (λ c. cc) (λ c. cc))

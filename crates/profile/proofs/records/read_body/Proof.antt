@@ -1,8 +1,10 @@
 -- Each arm has its kind, so that its length is the one allowed, and what the kind's reader gives is what the definitions choose.
 -- Assumes nothing.
-use borrow.Author.Tests.{eqb-true, ne-eqb}
-use Rattle.profile.specs.Script.{allowed, fits, put}
-use Rattle.profile.proofs.Readers.{field-long}
+use mathlib.Core.Path.{_≡_, sym, _∙_}
+use borrow.Author.Tests.{eqb-true}
+use Rattle.profile.specs.Values.{setTables}
+use Rattle.profile.specs.Script.{shutterFits, withShutter, allowed, fits, withRecord}
+use Rattle.profile.proofs.Readers.{last-kind, field-long}
 use Rattle.profile.proofs.records.read_body.Statement.{statement}
 use Rattle.profile.proofs.records.read_body.Tie as tie
 
@@ -28,52 +30,40 @@ read-subck-requires c κs = eqb-true _ _ (rw (c .match .keys5) at (c .before .be
 
 read-shutter-requires : tie.Need-read-shutter-requires
 unfolding allowed
-read-shutter-requires c κs =
-    let m = c .match .rest in
-    eqb-true _ _ (simp
-    (ne-eqb _ _ (m .0 .0 .0 .0 .1), ne-eqb _ _ (m .0 .0 .0 .1), ne-eqb _ _ (m .0 .0 .1), ne-eqb _ _ (m .0 .1), ne-eqb _ _ (m .1)) at
-    (c .before .before .pre))
+read-shutter-requires c κs = eqb-true _ _ (sym (last-kind _ _ _ _ _ _ _ (c .match .rest)) ∙ c .before .before .pre)
 
 returns : tie.Need-returns
-unfolding fits put
+unfolding fits withRecord
 returns c = rw (c .before .match .keys1) (c .read-register .ensures)
 
 returns-2 : tie.Need-returns-2
-unfolding fits put
+unfolding fits withRecord
 returns-2 c = rw (c .before .match .keys2) (c .read-sequence .ensures)
 
 returns-3 : tie.Need-returns-3
-unfolding fits put
+unfolding fits withRecord
 returns-3 c = rw (c .before .match .keys3) (c .read-field .ensures)
 
 returns-4 : tie.Need-returns-4
-unfolding fits put
+unfolding fits withRecord
 returns-4 c = rw (c .before .match .keys4) (c .read-gate .ensures)
 
 returns-5 : tie.Need-returns-5
-unfolding fits put
+unfolding fits withRecord
 returns-5 c = rw (c .before .match .keys5) (c .read-subck .ensures)
 
 returns-6 : tie.Need-returns-6
-unfolding fits put
+unfolding fits withRecord
 returns-6 c =
     let m = c .before .match .rest in
-    simp (ne-eqb _ _ (m .0 .0 .0 .0 .1), ne-eqb _ _ (m .0 .0 .0 .1), ne-eqb _ _ (m .0 .0 .1), ne-eqb _ _ (m .0 .1), ne-eqb _ _ (m .1))
-    (c .read-shutter .ensures)
+    let a = c .before .before .before .args in
+    let e : fits (a .kind) (a .body .now) ≡ shutterFits (a .body .now) = last-kind _ _ _ _ _ _ _ m in
+    let w : withRecord (a .kind) (a .body .now) (a .profile) ≡ setTables (withShutter (a .body .now) (a .profile .tables)) (a .profile) =
+    last-kind _ _ _ _ _ _ _ m in
+    rw (e, w) (c .read-shutter .ensures)
 
 pub read-body-spec : {M : Type 1} → statement M
 read-body-spec =
     tie.close
-    (tie.spec
-    read-register-requires
-    read-sequence-requires
-    read-field-requires
-    read-gate-requires
-    read-subck-requires
-    read-shutter-requires
-    returns
-    returns-2
-    returns-3
-    returns-4
-    returns-5
-    returns-6)
+    (tie.spec read-register-requires read-sequence-requires read-field-requires read-gate-requires read-subck-requires
+    read-shutter-requires returns returns-2 returns-3 returns-4 returns-5 returns-6)

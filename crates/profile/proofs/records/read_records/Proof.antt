@@ -5,7 +5,7 @@ use Prim.Native.Nat.{_-_}
 use lib.ListN.{length, drop}
 use Rattle.profile.specs.Values.{emptyProfile}
 use Rattle.profile.specs.Script.{records}
-use Rattle.profile.proofs.OneRecord.{further, read-on, read-stop, read-start, read-end}
+use Rattle.profile.proofs.OneRecord.{further, read-on, read-stop, read-end}
 use borrow.Author.Needs.{needs}
 use native.Mathlib.Omega.{arith}
 use Rattle.profile.proofs.records.read_records.Statement.{statement}
@@ -16,21 +16,6 @@ Inv-loop script profile₀ at₀ profile at = records 0 at (drop at script) prof
 
 abbrev μ-loop : tie.MeasureT-loop
 μ-loop script profile₀ at₀ profile at = length script - at
-
-empty-requires : tie.Need-empty-requires Inv-loop μ-loop
-empty-requires c κs = search needs
-
-loop-holds : tie.Need-loop-holds Inv-loop μ-loop
-loop-holds c = read-start _ _ (c .empty .ensures)
-
-record-by-requires : tie.Need-record-by-requires Inv-loop μ-loop
-record-by-requires c κs = search needs
-
-refuse-requires : tie.Need-refuse-requires Inv-loop μ-loop
-refuse-requires c κs = search needs
-
-make-answer-requires : tie.Need-make-answer-requires Inv-loop μ-loop
-make-answer-requires c κs = search needs
 
 returns : tie.Need-returns Inv-loop μ-loop
 returns c =
@@ -54,12 +39,6 @@ loop-again c =
     let s = d .before .before .before .before .before .args .script .now in
     read-on s (l .at) (l .profile) _ (d .record-by .ensures) (c .before .if1 .left) ∙ l .inv
 
-accept-requires : tie.Need-accept-requires Inv-loop μ-loop
-accept-requires c κs = search needs
-
-make-answer-requires-2 : tie.Need-make-answer-requires-2 Inv-loop μ-loop
-make-answer-requires-2 c κs = search needs
-
 returns-2 : tie.Need-returns-2 Inv-loop μ-loop
 returns-2 c =
     c .make-answer2 .ensures ∙ rw (c .before .accept .ensures)
@@ -68,17 +47,5 @@ returns-2 c =
 pub read-records-spec : {M : Type 1} → statement M
 read-records-spec =
     tie.close
-    (tie.spec
-    Inv-loop
-    μ-loop
-    empty-requires
-    loop-holds
-    record-by-requires
-    refuse-requires
-    make-answer-requires
-    returns
-    loop-less
-    loop-again
-    accept-requires
-    make-answer-requires-2
-    returns-2)
+    (tie.spec Inv-loop μ-loop (λ c κs. search needs) (λ c. cc) (λ c κs. search needs) (λ c κs. search needs)
+    (λ c κs. search needs) returns loop-less loop-again (λ c κs. search needs) (λ c κs. search needs) returns-2)

@@ -1,4 +1,4 @@
--- A walk of the code: the reader that `open` returns is held in a local and passed to `advance`; of both only the contracts are known.
+-- A walk of the code: the reader that `open` returns is held in a local and passed to `record-here`; of both only the contracts are known.
 -- The local's type has its lifetime erased, and the reader's machine value has that type too: what a reader owns does not name the lifetime.
 -- Assumes nothing.
 use mathlib.Core.Path.{_≡_, refl, ap, _∙_}
@@ -52,10 +52,10 @@ use Rattle.profile.proofs.records.open as opened
 use Rattle.profile.proofs.records.open.Symbol as new-def
 use Rattle.profile.proofs.records.open.Symbol.{name as #profile·records·open}
 use Rattle.profile.proofs.records.open.Met as new-thm
-use Rattle.profile.proofs.records.advance as thin
-use Rattle.profile.proofs.records.advance.Symbol as next-def
-use Rattle.profile.proofs.records.advance.Symbol.{name as #profile·records·advance}
-use Rattle.profile.proofs.records.advance.Met as next-thm
+use Rattle.profile.proofs.records.record_here as thin
+use Rattle.profile.proofs.records.record_here.Symbol as next-def
+use Rattle.profile.proofs.records.record_here.Symbol.{name as #profile·records·record-here}
+use Rattle.profile.proofs.records.record_here.Met as next-thm
 use Rattle.profile.proofs.records.record_by.Key.{name as #profile·records·record-by}
 use Rattle.profile.proofs.records.record_by as above
 use Rattle.profile.proofs.records.record_by.Statement as stated
@@ -137,7 +137,7 @@ module _ {M : Type 1} (𝓤 : URA M) (H : Heap 𝓤) (A : Atoms 𝓤) (W : Given
       (fact 𝓤 ((r .script ≡ s) × (r .at ≡ n)))
   new-said r = exE 𝓤 _ (λ ws. snd∗ 𝓤 (sem 𝓤 H A (lasts opened.ended (κ, tt) (s, (n, tt)) ws)) (fact 𝓤 ((r .script ≡ s) × (r .at ≡ n))))
 
-  -- the call of `advance`, at the reader r with the machine value u
+  -- the call of `record-here`, at the reader r with the machine value u
   abbrev at₃ : Val → Vals thin.signature (κ, tt)
   at₃ u = (u ∷ [], (pm ∷ [], tt))
 
@@ -161,7 +161,7 @@ module _ {M : Type 1} (𝓤 : URA M) (H : Heap 𝓤) (A : Atoms 𝓤) (W : Given
       move ! (1 ∷ []) $ frame ! $ move ! (1 ∷ []) $ frame ! $ done !
 
   module _ (C : Calls 𝓤 H) (Λ : Loops 𝓤 H) (fm : FmC 𝓤 H (W .laws) C) (known-new : Triple 𝓤 (C #profile·records·open) (New 𝓤 H A mem run))
-      (known-next : Triple 𝓤 (C #profile·records·advance) (Next 𝓤 H A mem run)) where
+      (known-next : Triple 𝓤 (C #profile·records·record-here) (Next 𝓤 H A mem run)) where
     walk : Is (ShrSlice (named 0) κ u8) s (v ∷ []) → Holds (hasTy P′.mir pm) × WT pm
         → ent 𝓤 (onEntry 𝓤 H A above.signature (κ, tt) (q, tt) (s, (n, (p, tt))) at) (WpFn 𝓤 H C Λ code.function (v ∷ vint w64 n ∷ pm ∷ []) Post)
     walk g wp =
@@ -200,7 +200,7 @@ module _ {M : Type 1} (𝓤 : URA M) (H : Heap 𝓤) (A : Atoms 𝓤) (W : Given
 
 module _ {M : Type 1} (𝓤 : URA M) (H : Heap 𝓤) (A : Atoms 𝓤) (W : Given 𝓤 H A) (mem : Memory → SProp 𝓤) (run : Routine → Fun 𝓤) where
   record-by-walks : (C : Calls 𝓤 H) (Λ : Loops 𝓤 H) → FmC 𝓤 H (W .laws) C → Triple 𝓤 (C #profile·records·open) (New 𝓤 H A mem run)
-      → Triple 𝓤 (C #profile·records·advance) (Next 𝓤 H A mem run)
+      → Triple 𝓤 (C #profile·records·record-here) (Next 𝓤 H A mem run)
       → Walks 𝓤 H A above.ended stayed (WpFn 𝓤 H C Λ code.function) (above.clauses 𝓤 H A mem run)
   record-by-walks C Λ fm known-new known-next = walked 𝓤 H A above.ended stayed (above.clauses 𝓤 H A mem run) (WpFn 𝓤 H C Λ code.function)
       (λ κs. (slice-vals, (uint-vals w64, (LL.vals P.the-type P′.the-laws, tt))))
@@ -210,7 +210,7 @@ module _ {M : Type 1} (𝓤 : URA M) (H : Heap 𝓤) (A : Atoms 𝓤) (W : Given
 
 record-by-meets : {M : Type 1} (𝓤 : URA M) (H : Heap 𝓤) (A : Atoms 𝓤) (W : Given 𝓤 H A) (mem : Memory → SProp 𝓤) (run : Routine → Fun 𝓤)
     (𝓣 : Tables 𝓤 H)
-    → Triple 𝓤 (𝓣 .C #profile·records·open) (New 𝓤 H A mem run) → Triple 𝓤 (𝓣 .C #profile·records·advance) (Next 𝓤 H A mem run)
+    → Triple 𝓤 (𝓣 .C #profile·records·open) (New 𝓤 H A mem run) → Triple 𝓤 (𝓣 .C #profile·records·record-here) (Next 𝓤 H A mem run)
     → Meets 𝓤 H A above.signature (WpFn 𝓤 H (𝓣 .C) (𝓣 .Λ) code.function) (above.spec 𝓤 H A mem run)
 record-by-meets 𝓤 H A W mem run 𝓣 known-new known-next = walk-meets 𝓤 H A above.ended stayed W (
   goes-none-slice 𝓤 H A W 1 (0 ∷ []) tt (plain (λ _. u8)) yes,
@@ -227,5 +227,5 @@ record-by-spec 𝓤 H 𝓜 𝓖 𝓡 =
     (record-by-meets 𝓤 H (𝓖 .A) (givenOf 𝓤 H 𝓜 𝓖) (𝓜 .mem) (𝓡 .run) (tablesOf 𝓤 H 𝓜 (tables 𝓤 H 𝓜 𝓡 code.env))
     (cited 𝓤 H (New 𝓤 H (𝓖 .A) (𝓜 .mem) (𝓡 .run)) 𝓜 𝓡 code.env #profile·records·open new-def.routine code.calls-profile·records·open
     (new-thm.met 𝓤 H 𝓜 𝓖 𝓡))
-    (cited 𝓤 H (Next 𝓤 H (𝓖 .A) (𝓜 .mem) (𝓡 .run)) 𝓜 𝓡 code.env #profile·records·advance next-def.routine code.calls-profile·records·advance
+    (cited 𝓤 H (Next 𝓤 H (𝓖 .A) (𝓜 .mem) (𝓡 .run)) 𝓜 𝓡 code.env #profile·records·record-here next-def.routine code.calls-profile·records·record-here
     (next-thm.met 𝓤 H 𝓜 𝓖 𝓡)))

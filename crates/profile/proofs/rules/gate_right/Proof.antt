@@ -5,9 +5,6 @@ use Rattle.profile.specs.Rules.{gateRight}
 use Rattle.profile.proofs.rules.gate_right.Statement.{statement}
 use Rattle.profile.proofs.rules.gate_right.Tie as tie
 
-returns : tie.Need-returns
-unfolding gateRight
-returns c = refl
-
 pub gate-right-spec : {M : Type 1} → statement M
-gate-right-spec = tie.close (tie.spec returns)
+unfolding gateRight
+gate-right-spec = tie.close (tie.spec (λ c. refl))

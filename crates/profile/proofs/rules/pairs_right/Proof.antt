@@ -5,9 +5,6 @@ use Rattle.profile.specs.Rules.{pairsRight}
 use Rattle.profile.proofs.rules.pairs_right.Statement.{statement}
 use Rattle.profile.proofs.rules.pairs_right.Tie as tie
 
-returns : tie.Need-returns
-unfolding pairsRight
-returns c = refl
-
 pub pairs-right-spec : {M : Type 1} → statement M
-pairs-right-spec = tie.close (tie.spec returns)
+unfolding pairsRight
+pairs-right-spec = tie.close (tie.spec (λ c. refl))

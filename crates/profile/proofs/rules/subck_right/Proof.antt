@@ -5,9 +5,6 @@ use Rattle.profile.specs.Rules.{subckRight}
 use Rattle.profile.proofs.rules.subck_right.Statement.{statement}
 use Rattle.profile.proofs.rules.subck_right.Tie as tie
 
-returns : tie.Need-returns
-unfolding subckRight
-returns c = refl
-
 pub subck-right-spec : {M : Type 1} → statement M
-subck-right-spec = tie.close (tie.spec returns)
+unfolding subckRight
+subck-right-spec = tie.close (tie.spec (λ c. refl))

@@ -5,12 +5,6 @@ use borrow.Author.Needs.{needs}
 use Rattle.profile.proofs.values.empty_field.Statement.{statement}
 use Rattle.profile.proofs.values.empty_field.Tie as tie
 
-empty-region-requires : tie.Need-empty-region-requires
-empty-region-requires c κs = search needs
-
-returns : tie.Need-returns
-unfolding emptyField
-returns c = rw (c .empty-region .ensures)
-
 pub empty-field-spec : {M : Type 1} → statement M
-empty-field-spec = tie.close (tie.spec empty-region-requires returns)
+unfolding emptyField
+empty-field-spec = tie.close (tie.spec (λ c κs. search needs) (λ c. cc))

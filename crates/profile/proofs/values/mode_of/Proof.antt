@@ -1,17 +1,11 @@
 -- Each arm has its number, the last one that is neither 0 nor 1.
 -- Assumes nothing.
-use borrow.Author.Tests.{ne-eqb}
+use Rattle.profile.proofs.Tested.{deciding}
 use Rattle.profile.proofs.values.mode_of.Statement.{statement}
 use Rattle.profile.proofs.values.mode_of.Tie as tie
-
-returns : tie.Need-returns
-returns c = rw (c .match .keys1)
 
 returns-2 : tie.Need-returns-2
 returns-2 c = rw (c .match .keys2)
 
-returns-3 : tie.Need-returns-3
-returns-3 c = simp (ne-eqb _ _ (c .match .rest .0 .1), ne-eqb _ _ (c .match .rest .1))
-
 pub mode-of-spec : {M : Type 1} → statement M
-mode-of-spec = tie.close (tie.spec returns returns-2 returns-3)
+mode-of-spec = tie.close (tie.spec (λ c. search deciding) returns-2 (λ c. search deciding))

@@ -7,8 +7,8 @@ use native.Mathlib.Nat.{add-zero}
 use borrow.Author.Tests.{not-true, not-false}
 use lib.ListN.{length}
 use Rattle.profile.specs.Geometry.{regionCount}
-use Rattle.profile.proofs.Sizes.{length-field}
-use Rattle.profile.proofs.Stores.{sets-field}
+use Rattle.profile.specs.Script.{headLength, regionLength}
+use Rattle.profile.proofs.Stores.{length-field, sets-field}
 use borrow.Author.Needs.{needs}
 use native.Mathlib.Omega.{arith}
 use Rattle.profile.proofs.writing.put_field.Statement.{statement}
@@ -19,48 +19,18 @@ there : (c : tie.Else1) → c .before .before .before .args .f .present ≡ true
 there c = not-false _ (c .if1 .left)
 
 room : (c : tie.Else1)
-    → c .before .before .before .args .at + (14 + 6 * regionCount (c .before .before .before .args .f))
+    → c .before .before .before .args .at + (4 + (headLength + regionLength * regionCount (c .before .before .before .args .f)))
     ≤ length (c .before .before .before .args .out .now)
 room c = let s = c .before .before .before in let h = rw (there c) at (s .pre) in omega (arith, length-field (s .args .f))
 
 returns : tie.Need-returns
 returns c = let e : c .before .before .before .args .f .present ≡ false = not-true _ (c .if1 .taken) in rw e (sym (add-zero _), refl)
 
-region-count-requires : tie.Need-region-count-requires
-region-count-requires c κs = search needs
-
-mul-t7 : tie.Need-mul-t7
-mul-t7 c = search needs
-
-add-t8 : tie.Need-add-t8
-add-t8 c = search needs
-
-cast-t9 : tie.Need-cast-t9
-cast-t9 c = search needs
-
-slice-aggregate-put-numbers : tie.Need-slice-aggregate-put-numbers
-slice-aggregate-put-numbers c = search needs
-
 put-numbers-requires : tie.Need-put-numbers-requires
 put-numbers-requires c κs = omega (arith, room (c .before .before .before))
 
-add-put-regions : tie.Need-add-put-regions
-add-put-regions c = search needs
-
 put-regions-requires : tie.Need-put-regions-requires
 put-regions-requires c κs = let h = room (c .before .before .before .before .before .before .before) in search needs
-
-add-result : tie.Need-add-result
-add-result c = search needs
-
-mul-result : tie.Need-mul-result
-mul-result c = search needs
-
-add-result-2 : tie.Need-add-result-2
-add-result-2 c = search needs
-
-same-length : tie.Need-same-length
-same-length c = search needs
 
 returns-2 : tie.Need-returns-2
 returns-2 c =
@@ -76,18 +46,6 @@ returns-2 c =
 pub put-field-spec : {M : Type 1} → statement M
 put-field-spec =
     tie.close
-    (tie.spec
-    returns
-    region-count-requires
-    mul-t7
-    add-t8
-    cast-t9
-    slice-aggregate-put-numbers
-    put-numbers-requires
-    add-put-regions
-    put-regions-requires
-    add-result
-    mul-result
-    add-result-2
-    same-length
-    returns-2)
+    (tie.spec returns (λ c κs. search needs) (λ c. search needs) (λ c. search needs) (λ c. search needs) (λ c. search needs)
+    put-numbers-requires (λ c. search needs) (λ c. search needs) put-regions-requires (λ c. search needs) (λ c. search needs)
+    (λ c. search needs) returns-2)

@@ -14,15 +14,6 @@ put-numbers-requires c κs =
     let h = rw (c .before .if1 .taken) at (s .pre) in
     omega (arith, length-two (s .args .numbers .now))
 
-mul-result : tie.Need-mul-result
-mul-result c = search needs
-
-add-result : tie.Need-add-result
-add-result c = search needs
-
-same-length : tie.Need-same-length
-same-length c = search needs
-
 returns : tie.Need-returns
 returns c =
     let d = c .before .before in
@@ -34,4 +25,5 @@ returns-2 c = rw (c .if1 .left) (sym (add-zero _), refl)
 
 pub put-present-spec : {M : Type 1} → statement M
 put-present-spec =
-    tie.close (tie.spec put-numbers-requires mul-result add-result same-length returns returns-2)
+    tie.close
+    (tie.spec put-numbers-requires (λ c. search needs) (λ c. search needs) (λ c. search needs) returns returns-2)

@@ -1,82 +1,21 @@
 -- After k turns the records of the first k that are present are stored.
 -- Assumes nothing.
-use Prim.Native.Nat.{_≤_, _-_, _+_}
-use mathlib.Core.Path.{_≡_, _∙_, refl, sym}
-use native.Mathlib.Nat.{add-zero}
-use lib.ListN.{length}
-use lib.Seq.{sets}
-use Rattle.profile.specs.Lists.{chunks}
+use Prim.Native.Nat.{_-_}
 use Rattle.profile.specs.Writing.{sequenceChunk}
-use Rattle.profile.proofs.Laws.{chunks-none, chunk-room}
-use Rattle.profile.proofs.Stores.{sets-chunk, length-chunks-more}
+use Rattle.profile.proofs.Stores.{StoredTo, storing}
 use borrow.Author.Needs.{needs}
-use native.Mathlib.Omega.{arith}
 use Rattle.profile.proofs.writing.put_sequences.Statement.{statement}
 use Rattle.profile.proofs.writing.put_sequences.Tie as tie
 
 abbrev Inv-loop : tie.InvT-loop
-Inv-loop out₀ at sequences to₀ k₀ out to k =
-    (k ≤ 10)
-    × (to ≡ at + length (chunks k (sequenceChunk sequences)))
-    × (out ≡ sets out₀ at (chunks k (sequenceChunk sequences)))
-    × (length out ≡ length out₀)
+Inv-loop out₀ at sequences to₀ k₀ out to k = StoredTo (sequenceChunk sequences) 10 out₀ at k out to
 
 abbrev μ-loop : tie.MeasureT-loop
 μ-loop out₀ at sequences to₀ k₀ out to k = 10 - k
 
-loop-holds : tie.Need-loop-holds Inv-loop μ-loop
-loop-holds c = (omega arith, rw chunks-none (sym (add-zero _)), rw chunks-none, refl)
-
-cast-put-sequence : tie.Need-cast-put-sequence Inv-loop μ-loop
-cast-put-sequence c = search needs
-
-mul-put-sequence : tie.Need-mul-put-sequence Inv-loop μ-loop
-mul-put-sequence c = search needs
-
-array-copy-out-put-sequence : tie.Need-array-copy-out-put-sequence Inv-loop μ-loop
-array-copy-out-put-sequence c = search needs
-
-put-sequence-requires : tie.Need-put-sequence-requires Inv-loop μ-loop
-put-sequence-requires c κs =
-    let l = c .before .before .before in
-    omega (arith, chunk-room (l .loop .k) 10 (sequenceChunk (l .before .before .args .t3)) (c .before .before .loop-test .taken))
-
-add-k : tie.Need-add-k Inv-loop μ-loop
-add-k c = search needs
-
-loop-less : tie.Need-loop-less Inv-loop μ-loop
-loop-less c = search needs
-
-loop-again : tie.Need-loop-again Inv-loop μ-loop
-loop-again c =
-    let u = c .before .before .put-sequence in
-    let l = c .before .before .before .before .before .before in
-    let f = sequenceChunk (l .before .before .args .t3) in (
-      omega arith,
-      omega (arith, u .ensures .0, length-chunks-more (l .loop .k) f),
-      u .ensures .1 ∙ rw (l .loop .inv .2) (sets-chunk _ _ _ _ f (l .loop .inv .1)),
-      u .kept .0 ∙ l .loop .inv .3,
-    )
-
-same-length : tie.Need-same-length Inv-loop μ-loop
-same-length c = c .before .loop .inv .3
-
-returns : tie.Need-returns Inv-loop μ-loop
-returns c = let e : c .before .loop .k ≡ 10 = omega arith in (rw e at (c .before .loop .inv .1), rw e at (c .before .loop .inv .2))
-
 pub put-sequences-spec : {M : Type 1} → statement M
 put-sequences-spec =
     tie.close
-    (tie.spec
-    Inv-loop
-    μ-loop
-    loop-holds
-    cast-put-sequence
-    mul-put-sequence
-    array-copy-out-put-sequence
-    put-sequence-requires
-    add-k
-    loop-less
-    loop-again
-    same-length
-    returns)
+    (tie.spec Inv-loop μ-loop (λ c. search storing) (λ c. search needs) (λ c. search needs) (λ c. search needs)
+    (λ c κs. search storing) (λ c. search needs) (λ c. search needs) (λ c. search storing) (λ c. search needs)
+    (λ c. search storing))

@@ -5,17 +5,8 @@ use borrow.Author.Needs.{needs}
 use Rattle.profile.proofs.writing.write.Statement.{statement}
 use Rattle.profile.proofs.writing.write.Tie as tie
 
-check-requires : tie.Need-check-requires
-check-requires c κs = search needs
-
 returns : tie.Need-returns
 returns c = refused-first _ _ _ (c .before .before .check .ensures) (c .if1 .taken)
-
-script-length-requires : tie.Need-script-length-requires
-script-length-requires c κs = search needs
-
-refuse-requires : tie.Need-refuse-requires
-refuse-requires c κs = search needs
 
 returns-2 : tie.Need-returns-2
 returns-2 c =
@@ -23,15 +14,6 @@ returns-2 c =
     let i = n .before in
     rw (c .refuse .ensures)
     (no-room _ _ _ (i .before .before .check .ensures) (i .if1 .left) _ (n .script-length .ensures .0) (c .before .if2 .taken))
-
-put-script-requires : tie.Need-put-script-requires
-put-script-requires c κs = search needs
-
-accept-requires : tie.Need-accept-requires
-accept-requires c κs = search needs
-
-same-length : tie.Need-same-length
-same-length c = search needs
 
 returns-3 : tie.Need-returns-3
 returns-3 c =
@@ -45,13 +27,5 @@ returns-3 c =
 pub write-spec : {M : Type 1} → statement M
 write-spec =
     tie.close
-    (tie.spec
-    check-requires
-    returns
-    script-length-requires
-    refuse-requires
-    returns-2
-    put-script-requires
-    accept-requires
-    same-length
-    returns-3)
+    (tie.spec (λ c κs. search needs) returns (λ c κs. search needs) (λ c κs. search needs) returns-2 (λ c κs. search needs)
+    (λ c κs. search needs) (λ c. search needs) returns-3)

@@ -1,0 +1,89 @@
+-- What is printed of a compile's answer, by its verdict; how long it is; and that what a compile leaves in the lists tells the field's runs.
+-- Assumes nothing.
+use Prim.Native.Nat.{ℕ, _+_, _*_, _≤_, _<_, _^_, min}
+use native.Mathlib.Omega.{arith}
+use mathlib.Core.Path.{_≡_, refl, ap, _∙_}
+use mathlib.Core.List.{List, _++_}
+use borrow.Author.Tests.{eq-eqb, ne-eqb, eqb-true, eqb-false}
+use lib.Dec.{eqb}
+use lib.ListN.{length, getD, drop, length-append, length-map, List·getD-append}
+use Rattle.profile.specs.Lists.{over}
+use Rattle.profile.specs.Script.{readScript}
+use Rattle.profile.specs.declared.Profile.{Profile}
+use Rattle.profile.specs.declared.ReadAnswer.{ReadAnswer}
+use Rattle.profile.proofs.Laws.{by-cases, chunks-ext}
+use Rattle.holdlist.specs.declared.Compiled.{Compiled}
+use Rattle.holdlist.specs.Runs.{stepCount, stepWord, stepCounts, stepWords}
+use Rattle.holdlist.specs.Compile.{roomOf, profileWords, fieldRuns, compileAnswer, compileCounts, compileWords, Compiles}
+use Rattle.holdlist.specs.Text.{headLine, stepLineAt, listing, refusedLine, printedAnswer, printedOf, printed}
+use Rattle.holdlist.proofs.Demanded.{compile-cases}
+use Rattle.holdlist.proofs.Spelling.{listing-length, refused-length}
+
+pub answer-listing :
+    (c : Compiled) (cs ws : List ℕ) → c .verdict .number ≡ 0 → printedAnswer c cs ws ≡ listing (c .steps) (c .pixels) cs ws
+unfolding printedAnswer
+answer-listing c cs ws e = rw (eq-eqb (c .verdict .number) 0 e)
+
+pub answer-refused :
+    (c : Compiled) (cs ws : List ℕ) → (c .verdict .number ≡ 0 → ⊥) → printedAnswer c cs ws ≡ refusedLine (c .verdict .number) (c .verdict .place)
+unfolding printedAnswer
+answer-refused c cs ws n = rw (ne-eqb (c .verdict .number) 0 n)
+
+-- 16 bytes a step, and the longest head line
+pub answer-length :
+    (c : Compiled) (cs ws : List ℕ) → c .verdict .number < 2 ^ 16 → c .verdict .place < 2 ^ 64 → c .steps < 2 ^ 64 → c .pixels < 2 ^ 64 →
+    ((i : ℕ) → getD cs i 0 < 2 ^ 32) → length (printedAnswer c cs ws) ≤ 55 + 16 * roomOf cs ws
+answer-length c cs ws n p s x f =
+    by-cases (eqb (c .verdict .number) 0)
+    (λ t.
+    rw (answer-listing c cs ws (eqb-true _ _ t))
+    (omega (arith, listing-length (c .steps) (c .pixels) cs ws s x f)))
+    (λ t.
+    rw (answer-refused c cs ws (eqb-false _ _ t))
+    (omega (arith, refused-length (c .verdict .number) (c .verdict .place) n p)))
+
+-- ---- what is left past the steps is not printed
+
+module _ (steps pixels : ℕ) (cs ws us vs : List ℕ) where
+  listing-over :
+      length cs ≡ steps → length ws ≡ steps → listing steps pixels (over cs us) (over ws vs) ≡ listing steps pixels cs ws
+  unfolding listing
+  listing-over h g =
+      let a : min steps (roomOf (over cs us) (over ws vs)) ≡ steps =
+      omega (arith, length-append cs (drop (length cs) us), length-append ws (drop (length ws) vs))
+      in
+      let b : min steps (roomOf cs ws) ≡ steps = omega arith in
+      rw (a, b)
+      (ap (λ s. headLine steps pixels ++ s)
+      (chunks-ext steps (stepLineAt (over cs us) (over ws vs)) (stepLineAt cs ws)
+      (λ i l.
+      rw (List·getD-append cs (drop (length cs) us) 0 i (omega arith), List·getD-append ws (drop (length ws) vs) 0 i (omega arith)))))
+
+-- so the lists that a compile leaves tell what the field's runs tell
+pub answer-runs :
+    (p : Profile) (cs ws : List ℕ) →
+    printedAnswer (compileAnswer p (roomOf cs ws)) (compileCounts p (roomOf cs ws) cs) (compileWords p (roomOf cs ws) ws)
+    ≡ printedAnswer (compileAnswer p (roomOf cs ws)) (stepCounts (fieldRuns p)) (stepWords (fieldRuns p))
+unfolding printedAnswer
+answer-runs p cs ws =
+    compile-cases p cs ws (λ r cs′ ws′. printedAnswer r cs′ ws′ ≡ printedAnswer r (stepCounts (fieldRuns p)) (stepWords (fieldRuns p)))
+    (λ e. rw e)
+    (λ ok h. refl)
+    (λ ok h.
+    listing-over (length (fieldRuns p)) (length (profileWords p)) (stepCounts (fieldRuns p)) (stepWords (fieldRuns p)) cs ws
+    (length-map (fieldRuns p) stepCount) (length-map (fieldRuns p) stepWord))
+
+-- ---- what is printed for a script
+
+pub printed-refused :
+    (script : List ℕ) (a : ReadAnswer) → a ≡ readScript script → (a .verdict .number ≡ 0 → ⊥) →
+    refusedLine (a .verdict .number) (a .verdict .place) ≡ printed script
+unfolding printed
+printed-refused script a e n = rw (← e) (rw (ne-eqb (a .verdict .number) 0 n))
+
+pub printed-told :
+    (script : List ℕ) (a : ReadAnswer) {r : Compiled} {cs ws cs′ ws′ : List ℕ} → a ≡ readScript script → a .verdict .number ≡ 0 →
+    roomOf cs ws ≡ 4096 → Compiles (a .profile) cs ws r cs′ ws′ → printedAnswer r cs′ ws′ ≡ printed script
+unfolding printed printedOf
+printed-told script a {cs = cs} {ws = ws} e z m c =
+    rw (c .answer, c .counts, c .words) (answer-runs (a .profile) cs ws ∙ rw (m, ← e) (rw (eq-eqb (a .verdict .number) 0 z)))
