@@ -1,4 +1,5 @@
--- What the writers inside compiling promise one another. Nothing here needs belief: what compiling ensures (specs/Compile.antt) names none of it.
+-- Nobody has to believe this file: it says what the writers inside compiling promise one another, and what `compile` ensures (specs/Compile.antt)
+-- names none of it.
 -- A writer is given what is free of the two lists, cs and ws, which are cs′ and ws′ when it is done.
 -- Assumes nothing.
 use Prim.Native.Nat.{ℕ, zero, suc, _+_, _-_, _≤_, _<_}

@@ -1,4 +1,4 @@
--- How the code counts flips: what it counts, which nobody has to believe, for proofs/Counting.antt shows that it gives Word's levels.
+-- Nobody has to believe this file: it says how the code counts flips, and proofs/Counting.antt shows that Word's levels come out.
 -- Each toggle has a key and each pixel a count, one for all six outputs: a toggle is passed where its key is below the count. Before the
 -- start, and after the run, the count is 0 and none is passed.
 -- Assumes nothing.

@@ -1,5 +1,5 @@
--- A line made ready, what it says at a pixel, and what it is to keep levels from pixel to pixel: what the code keeps, which nobody has to
--- believe, for proofs/Counting.antt and proofs/outputs show that it gives Word's word.
+-- Nobody has to believe this file: it says what a line made ready holds, what it says at a pixel, and what it is to keep levels from pixel to
+-- pixel. proofs/Counting.antt and the proofs of `outputs` show that Word's word comes out.
 -- Assumes nothing.
 use Prim.Native.Nat.{ℕ, _+_, _-_, _*_, _<_, _≤_}
 use mathlib.Core.Path.{_≡_}
