@@ -37,7 +37,7 @@ subck() { numbers 10 5 "$@"; }
 
 none=65535 plain=0 sweep=1
 
-# base profile A of document 01: V1 goes low for two pixels, once on line 0 and twice on line 1
+# base profile A of docs/RULES.md: V1 goes low for two pixels, once on line 0 and twice on line 1
 base() {
   pattern 0 4 1 1 3
   sequence 0 0 10 2 1 2 0

@@ -1,9 +1,10 @@
 #!/usr/bin/env bash
-# What the program does with its input and its output, whatever they are: ends, errors, sizes, slow and closed pipes, a small stack; the examples; ./booth.
+# What the two programs, booth and ask, do with their input and their output, whatever they are: ends, errors, sizes, slow and closed pipes, a small stack; the
+# examples. ./booth, which people run, is tested by command.sh.
 set -u
 cd "$(dirname "$0")/.." || exit 1
-program=$PWD/target/bin/booth
-[ -x "$program" ] || { echo "program: no $program"; exit 1; }
+program=$PWD/target/bin/booth ask=$PWD/target/bin/ask
+for name in "$program" "$ask"; do [ -x "$name" ] || { echo "program: no $name"; exit 1; }; done
 work=$(mktemp -d) || exit 1
 trap 'rm -rf "$work"' EXIT
 passed=0 bad=0
@@ -35,14 +36,16 @@ slowly() {
 }
 slowly examples/base.bin | run; check "a slow pipe" "$w1"
 
-# output that is closed, full, or closed early ends it
+# a write that fails is said; an output that closes early ends it, by the pipe's signal where there is one
 : > "$work/out"
-timeout 20 "$program" < examples/base.bin >&- 2> "$work/err"; status=$?
-check "a closed output (status $status)" ""
-timeout 20 "$program" < examples/base.bin > /dev/full 2> "$work/err"; status=$?
-check "a full output (status $status)" ""
-(trap '' PIPE; timeout 20 "$program" < examples/sweep.bin 2> "$work/err") | true; status=${PIPESTATUS[0]}
-[ "$status" -eq 0 ] || echo "early: status $status" > "$work/err"
+timeout 20 "$program" < examples/base.bin >&- 2> "$work/err"
+check "a closed output" "" "booth: cannot write standard output"
+timeout 20 "$program" < examples/base.bin > /dev/full 2> "$work/err"
+check "a full output" "" "booth: cannot write standard output"
+(trap '' PIPE; timeout 20 "$program" < examples/sweep.bin 2> "$work/err") | true
+check "an output that closes early, no signal" "" "booth: cannot write standard output"
+timeout 20 "$program" < examples/sweep.bin 2> "$work/err" | true; status=${PIPESTATUS[0]}
+[ "$status" -eq 141 ] || [ "$status" -eq 0 ] || echo "early: status $status" > "$work/err"
 check "an output that closes early" ""
 
 (ulimit -s 256; run < examples/base.bin); check "a stack of 256 KB" "$w1"
@@ -55,16 +58,34 @@ bash examples/make.sh "$work" > "$work/out" 2> "$work/err"
 for name in base sweep refused; do cmp "examples/$name.bin" "$work/$name.bin" >> "$work/out"; done
 check "make.sh" ""
 
-# ./booth, from another folder too
-booth=$PWD/booth
-(cd "$work" && "$booth" "$OLDPWD/examples/base.bin" > out 2> err); check "./booth FILE" "$w1"
-(cd "$work" && "$booth" < "$OLDPWD/examples/base.bin" > out 2> err); check "./booth" "$w1"
-"$booth" . > "$work/out" 2> "$work/err"; status=$?
-check "./booth and a directory" "" "booth: cannot read standard input"
-[ "$status" -ne 0 ] || { echo "program: ./booth and a directory: status 0"; bad=$((bad + 1)); }
-"$booth" no/such/file > "$work/out" 2> "$work/err"; status=$?
-check "./booth and a file that is missing" "" "booth: no/such/file: no such file"
-[ "$status" -ne 0 ] || { echo "program: ./booth and a file that is missing: status 0"; bad=$((bad + 1)); }
+# ask: a question on the first line, then a script. For a line that is no question nothing is printed.
+asks() { { printf '%b' "$1"; cat "${2:-examples/base.bin}"; } | timeout 20 "$ask" > "$work/out" 2> "$work/err"; }
+asks 'C\n'; check "ask C" "accepted"
+asks 'L 1 5\n'; check "ask L" "word 0FC1"
+asks 'N 15\n'; check "ask N" "line 1 pixel 5"
+asks 'F\n' examples/refused.bin; check "ask F" "124 120"
+asks 'F\n'; check "ask F of a script that is accepted" "0 0"
+asks 'C\n' /dev/null; check "ask C of no script" "refused 6 0"
+asks 'C' /dev/null; check "ask C without an end of line" "refused 6 0"
+for line in '' 'X' 'c' 'CC' 'C ' ' C' 'W 1' 'L' 'L 1' 'L 1 ' 'L 1 2 3' 'L  1 2' 'L 1  2' 'L 1 2 ' 'L 1x 2' 'L -1 2' 'L\t1 2' 'L1 2' 'N' 'N ' 'N 1 2' 'N 1\r' 'F 1' 'C\r'; do
+  asks "$line\n"; check "ask '$line'" "" "ask: no such question"
+done
+# a line of 123 bytes is a question and leaves room for one byte more than the longest script; a longer line is none
+digits=$(printf '0%.0s' {1..119})
+asks "N 1$digits\n"; check "a line of 122 bytes" "refused 19 0"
+asks "N 0$digits\n"; check "a line of 122 bytes, of zeros" "line 0 pixel 0"
+head -c 16384 /dev/zero > "$work/most"; head -c 16385 /dev/zero > "$work/more"
+asks "N 10$digits\n" "$work/most"; check "a line of 123 bytes and 16,384 bytes" "refused 3 0"
+asks "N 10$digits\n" "$work/more"; check "a line of 123 bytes and 16,385 bytes" "refused 1 0"
+asks "N 100$digits\n"; check "a line of 124 bytes" "" "ask: no such question"
+yes | tr -d '\n' | timeout 20 "$ask" > "$work/out" 2> "$work/err"; check "a line that never ends" "" "ask: no such question"
+{ echo C; yes; } | timeout 20 "$ask" > "$work/out" 2> "$work/err"; check "a script that never ends" "refused 1 0"
+timeout 20 "$ask" < . > "$work/out" 2> "$work/err"; check "ask: a directory" "" "ask: cannot read standard input"
+timeout 20 "$ask" <&- > "$work/out" 2> "$work/err"; check "ask: a closed input" "" "ask: cannot read standard input"
+: > "$work/out"
+echo C | timeout 20 "$ask" > /dev/full 2> "$work/err"; check "ask: a full output" "" "ask: cannot write standard output"
+{ echo W; slowly examples/base.bin; } | timeout 20 "$ask" > "$work/slow" 2> "$work/err"; { echo W; cat examples/base.bin; } | "$ask" | cmp - "$work/slow" > "$work/out"; check "ask: a slow pipe" ""
+(ulimit -s 256; asks 'W\n'; head -c 4 "$work/out" | od -An -tx1 > "$work/line"; mv "$work/line" "$work/out"); check "ask: a stack of 256 KB" " 04 00 01 00"
 
 echo "program: $passed passed, $bad failed"
 [ "$passed" -gt 0 ] && [ "$bad" -eq 0 ]

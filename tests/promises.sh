@@ -1,6 +1,6 @@
 #!/usr/bin/env bash
-# Every place that docs/PROMISES.md cites, `crates/..: name, name`, is a file of the repository that declares those names; every public function is cited;
-# and every must-fail edit has its row, and every row its edit.
+# Every place that docs/PROMISES.md and docs/RULES.md cite, `crates/..: name, name`, is a file of the repository that declares those names; every public
+# function is cited in PROMISES; and every must-fail edit has its row there, and every row its edit.
 set -u
 cd "$(dirname "$0")/.." || exit 1
 cited=0; bad=0
@@ -20,12 +20,12 @@ for keyword in record data pub fn struct abbrev unfoldable module use; do
 done
 
 while read -r file names; do
-  [ -f "$file" ] || { echo "promises: no file $file"; bad=1; continue; }
+  [ -e "$file" ] || { echo "promises: no file $file"; bad=1; continue; }
   for name in $names; do
     cited=$((cited + 1))
     declares "$file" "$name" || { echo "promises: $file declares no $name"; bad=1; }
   done
-done < <(grep -oE '`crates/[^`]*`' docs/PROMISES.md | tr -d '`' | sed 's/:/ /; s/,/ /g')
+done < <(grep -ohE '`crates/[^`*]*`' docs/PROMISES.md docs/RULES.md | tr -d '`' | sed 's/:/ /; s/,/ /g')
 for file in crates/*/src/*.rt; do
   for name in $(grep -oE '^ *pub fn [a-z_0-9]+' "$file" | sed 's/.* //'); do
     grep -qF "\`$file: $name\`" docs/PROMISES.md || { echo "promises: $file: $name has no promise"; bad=1; }

@@ -54,11 +54,13 @@ fn put_answer(script: &[u8], out: &mut [u8]) -> usize
     holdlist::put_printed(out, 0, compiled, &counts, &words)
 }
 
-// What cannot be written is left: there is nobody to tell.
+// Prints the answer to a script. A write that fails is said on standard error.
 fn print_answer(script: &[u8]) {
     let mut text = text_room();
     let n = put_answer(script, &mut text);
-    io::write_all(STDOUT_FILENO, &text[..n]);
+    if !io::write_all(STDOUT_FILENO, &text[..n]) {
+        io::write_all(STDERR_FILENO, b"booth: cannot write standard output\n");
+    }
 }
 
 fn main() {

@@ -1,16 +1,16 @@
--- Laws that are cited everywhere: choices by tests, `all`, `Each`, `chunks`, `sum`, `lastStart` and `over`, each over any index, number or list.
+-- Laws that are cited everywhere: choices by tests, `all`, `Each`, `chunks`, `sum`, `lastStart`, `over` and rests, each over any index, number or list.
 -- Assumes nothing.
 use mathlib.Core.Path.{_≡_, refl, sym, ap, _∙_}
 use mathlib.Core.Bool.{Bool, true, false, cond, not, _&&_, _||_, false≢true}
 use mathlib.Core.Logic.{_⊎_, inl, inr}
 use mathlib.Core.List.{List, [], _∷_, _++_, map, append-assoc, append-nil}
-use Prim.Native.Nat.{ℕ, zero, suc, _+_, _*_, _-_, _≤_, _<_, zero-le}
+use Prim.Native.Nat.{ℕ, zero, suc, _+_, _*_, _-_, _≤_, _<_, min, zero-le}
 use native.Mathlib.Nat.{add-zero, zero-add, add-suc, add-assoc, zero-mul, suc-mul, add-mul, le-trans, mul-le-mul}
 use native.Mathlib.Numerals.{add-one}
 use native.Mathlib.Omega.{arith}
 use borrow.Author.Tests.{not-true, not-false, leb-true, leb-false, le-leb, lt-leb, eqb-true, eqb-false}
-use lib.ListN.{length, length-map, getD, length-append, List·getD-append}
-use lib.Seq.{getD-append-add}
+use lib.ListN.{length, length-map, getD, take, drop, length-append, length-drop, drop-of-length-le, List·getD-append}
+use lib.Seq.{getD-append-add, take-all}
 use lib.Dec.{leb, eqb}
 use Rattle.profile.specs.Lists.{Each, all, chunks, sum, lastStart}
 
@@ -391,3 +391,15 @@ module _ {A : Type 0} (P : A → Type 0) where
       by-cases (eqb i n)
       (λ q. rw (eqb-true i n q) (each-right (chunks n f) (f n) w))
       (λ q. each-chunk n f (each-left (chunks n f) (f n) w) i (omega (arith, eqb-false i n q)))
+
+-- ---- the rest of a list
+
+-- a part from a place on, which is at most the end, is the rest from there: past the end nothing is left
+pub rest-dropped : (n m : ℕ) (s : List ℕ) → m ≡ min n (length s) → take (length s - m) (drop m s) ≡ drop n s
+rest-dropped n m s e =
+    take-all (length s - m) (drop m s) (simp length-drop (omega arith))
+    ∙ by-cases (leb n (length s))
+    (λ q. let h = leb-true n (length s) q in let k : m ≡ n = omega arith in rw k)
+    (λ q.
+    let h = leb-false n (length s) q in
+    drop-of-length-le s {i = m} (omega arith) ∙ sym (drop-of-length-le s {i = n} (omega arith)))

@@ -24,6 +24,7 @@ pub use geometry::sequence_of;
 pub use patterns::pattern_of;
 pub use patterns::rows_of;
 pub use records::read;
+pub use records::read_records;
 pub use rules::check;
 pub use values::accept;
 pub use values::empty;

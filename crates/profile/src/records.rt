@@ -550,7 +550,7 @@ fn make_answer(verdict: Verdict, profile: Profile) -> ReadAnswer
 }
 
 // The profile of a script's records, or the first refusal with its record's offset and the empty profile.
-pub(crate) fn read_records(script: &[u8]) -> ReadAnswer
+pub fn read_records(script: &[u8]) -> ReadAnswer
     ensures { λ r. ⌜ r ≡ records 0 0 (now (script .entry)) emptyProfile ⌝ }
 {
     let mut profile = empty();

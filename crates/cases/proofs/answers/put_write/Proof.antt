@@ -2,7 +2,7 @@
 -- Assumes nothing.
 use borrow.Author.Needs.{needs}
 use Rattle.holdlist.proofs.Puts.{puts-as}
-use Rattle.cases.proofs.Parts.{rest-dropped}
+use Rattle.profile.proofs.Laws.{rest-dropped}
 use Rattle.cases.proofs.answers.put_write.Statement.{statement}
 use Rattle.cases.proofs.answers.put_write.Tie as tie
 

@@ -1,0 +1,4 @@
+pub mod Asking
+pub mod Cutting
+pub mod Answering
+pub mod Asked

@@ -1,0 +1,28 @@
+-- Its parts are put one after the other.
+-- Assumes nothing.
+use borrow.Author.Needs.{needs}
+use native.Mathlib.Omega.{arith}
+use Rattle.holdlist.proofs.Puts.{puts-more}
+use Rattle.ask.specs.Answer.{figuresLine}
+use Rattle.ask.proofs.Answering.{figures-length}
+use Rattle.ask.proofs.answers.put_figures_line.Statement.{statement}
+use Rattle.ask.proofs.answers.put_figures_line.Tie as tie
+
+returns : tie.Need-returns
+unfolding figuresLine
+returns c =
+    let z = c .before .before in
+    let y = z .before .before .before .before in
+    let x = y .before .before .before .before in
+    let w = x .before .before .before .before in
+    let g = w .before .before .before .good in
+    record {
+      puts = puts-more (puts-more (puts-more (w .put-decimal .ensures) (x .put-byte .ensures)) (y .put-decimal2 .ensures)) (z .put-byte2 .ensures);
+      short = figures-length _ (omega (arith, g)) (omega (arith, g));
+    }
+
+pub put-figures-line-spec : {M : Type 1} → statement M
+put-figures-line-spec =
+    tie.close
+    (tie.spec (λ c κs. search needs) (λ c κs. search needs) (λ c κs. search needs) (λ c κs. search needs) (λ c. search needs)
+    returns)

@@ -1,0 +1,31 @@
+-- By the verdict of reading.
+-- Assumes nothing.
+use borrow.Author.Needs.{needs}
+use Rattle.level.specs.Place.{locateAnswer}
+use Rattle.ask.specs.Answer.{locateText}
+use Rattle.ask.proofs.Answering.{short-as, of-refused, of-accepted}
+use Rattle.ask.proofs.answers.put_locate.Statement.{statement}
+use Rattle.ask.proofs.answers.put_locate.Tie as tie
+
+returns : tie.Need-returns
+returns c =
+    let p = c .before .before in
+    let i = p .before .before in
+    let a = i .before .before .before in
+    let s = a .before .before .before in
+    short-as (p .put-verdict-line .ensures) (of-refused (λ p. locateText (locateAnswer p (s .args .n))) _ _ (a .read .ensures) (i .if1 .taken))
+
+returns-2 : tie.Need-returns-2
+returns-2 c =
+    let p = c .before .before in
+    let i = p .before .before .before in
+    let a = i .before .before .before in
+    let s = a .before .before .before in
+    short-as (short-as (p .put-locate-text .ensures) (rw (p .before .locate .ensures)))
+    (of-accepted (λ p. locateText (locateAnswer p (s .args .n))) _ _ (a .read .ensures) (i .if1 .left))
+
+pub put-locate-spec : {M : Type 1} → statement M
+put-locate-spec =
+    tie.close
+    (tie.spec (λ c κs. search needs) (λ c κs. search needs) (λ c. search needs) returns (λ c κs. search needs)
+    (λ c κs. search needs) (λ c. search needs) returns-2)

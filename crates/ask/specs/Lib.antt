@@ -1,0 +1,4 @@
+pub mod Question
+pub mod Figures
+pub mod Answer
+pub mod Short

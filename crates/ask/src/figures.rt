@@ -1,0 +1,216 @@
+// The figures of a refusal: the two numbers that its sentence tells besides its place.
+use crate::question::byte_at;
+use profile::Field;
+use profile::Gate;
+use profile::Profile;
+use profile::Shutter;
+use profile::Tables;
+use profile::Verdict;
+use profile::end_line;
+use profile::line_length;
+use profile::pattern_of;
+use profile::read_records;
+use profile::region_at;
+use profile::region_pixels;
+use profile::sequence_at;
+ghost use mathlib.Core.Path.{_≡_};
+ghost use mathlib.Core.Bool.{cond};
+ghost use Prim.Native.Nat.{_+_, _*_, _<_, min};
+ghost use lib.Dec.{ltb};
+ghost use lib.ListN.{length};
+ghost use Rattle.profile.specs.Bytes.{numberAt};
+ghost use Rattle.profile.specs.Geometry.{gateOf, shutterOf};
+ghost use Rattle.ask.specs.Figures.{figures, recordFigures, runFigures, regionFigures, fieldFigures, profileFigures, figuresBy, figuresOf};
+
+pub struct Figures {
+    pub first: u64,
+    pub second: u64,
+}
+
+fn two(first: u64, second: u64) -> Figures
+    ensures { λ r. ⌜ r ≡ figures first second ⌝ }
+{
+    Figures { first, second }
+}
+
+// ---- of the record at a place
+
+fn wide(x: u8) -> u64
+    ensures { λ r. ⌜ (r ≡ x) × (r < 256) ⌝ }
+{
+    x as u64
+}
+
+// The number of two bytes.
+fn number_at(s: &[u8], at: usize) -> u64
+    requires { ⌜ at < 65536 ⌝ }
+    ensures { λ r. ⌜ (r ≡ numberAt (now (s .entry)) at) × (r < 65536) ⌝ }
+{
+    wide(byte_at(s, at)) + 256 * wide(byte_at(s, at + 1))
+}
+
+// How many bytes a record needs: its head, and its body where the head is whole.
+fn needed(rest: &[u8]) -> u64
+    ensures { λ r. ⌜ r ≡ cond (ltb (length (now (rest .entry))) 4) 4 (4 + numberAt (now (rest .entry)) 0) ⌝ }
+{
+    if rest.len() < 4 {
+        return 4;
+    }
+    4 + number_at(rest, 0)
+}
+
+// 2 to 5, of the script from the record on.
+fn record_figures(number: u16, rest: &[u8]) -> Figures
+    ensures { λ r. ⌜ r ≡ recordFigures number (now (rest .entry)) ⌝ }
+{
+    if number == 2 {
+        return two(rest.len() as u64, needed(rest));
+    }
+    two(number_at(rest, 2), number_at(rest, 0))
+}
+
+// Where a script's rest begins: at a place, or at the end where that is past it.
+fn rest_from(script: &[u8], place: u64) -> usize
+    ensures { λ r. ⌜ r ≡ min place (length (now (script .entry))) ⌝ }
+{
+    if place < (script.len() as u64) {
+        place as usize
+    } else {
+        script.len()
+    }
+}
+
+// ---- of a region
+
+// start + repetitions × length: a sum that cannot wrap.
+fn run_end(start: u16, times: u16, length: u16) -> u64
+    ensures { λ r. ⌜ r ≡ start + times * length ⌝ }
+{
+    (start as u64) + (times as u64) * (length as u64)
+}
+
+// 13.
+fn run_figures(tables: Tables, field: Field, i: usize) -> Figures
+    ensures { λ r. ⌜ r ≡ runFigures tables field i ⌝ }
+{
+    let sequence = sequence_at(tables, field, i);
+    let registers = tables.registers;
+    let pattern = pattern_of(registers, sequence.pattern);
+    let size = region_pixels(tables, field, i, end_line(field, i));
+    two(run_end(sequence.start, sequence.odd, pattern.length), size)
+}
+
+// 7 to 13, at region i.
+fn region_figures(tables: Tables, field: Field, number: u16, i: usize) -> Figures
+    ensures { λ r. ⌜ r ≡ regionFigures tables field number i ⌝ }
+{
+    let region = region_at(field, i);
+    let sequence = sequence_at(tables, field, i);
+    match number {
+        7 => two(region.first as u64, field.lines as u64),
+        8 => two(region.sequence as u64, 0),
+        12 => two(sequence.odd as u64, sequence.even as u64),
+        13 => run_figures(tables, field, i),
+        _ => two(sequence.pattern as u64, sequence.mask as u64),
+    }
+}
+
+// ---- of the field
+
+// Gate i; all zeros where there is none.
+fn gate_at(tables: Tables, i: usize) -> Gate
+    ensures { λ r. ⌜ r ≡ gateOf tables i ⌝ }
+{
+    if i < 5 {
+        return tables.gates[i];
+    }
+    Gate {
+        present: false,
+        on: 0,
+        level: 0,
+        toggle1: 0,
+        toggle2: 0,
+    }
+}
+
+// Shutter i; all zeros where there is none.
+fn shutter_at(tables: Tables, i: usize) -> Shutter
+    ensures { λ r. ⌜ r ≡ shutterOf tables i ⌝ }
+{
+    if i < 2 {
+        return tables.shutters[i];
+    }
+    Shutter {
+        present: false,
+        active: 0,
+        on_line: 0,
+        on_pixel: 0,
+        off_line: 0,
+        off_pixel: 0,
+    }
+}
+
+// 15, at gate i.
+fn gate_figures(tables: Tables, field: Field, i: usize) -> Figures
+    ensures { λ r. ⌜ r ≡ fieldFigures tables field 15 i ⌝ }
+{
+    let gate = gate_at(tables, i);
+    let length = line_length(tables, field, field.gate as u64);
+    two(gate.toggle2 as u64, length as u64)
+}
+
+// 14 to 17, at gate or shutter i.
+fn field_figures(tables: Tables, field: Field, number: u16, i: usize) -> Figures
+    ensures { λ r. ⌜ r ≡ fieldFigures tables field number i ⌝ }
+{
+    let subck = tables.subck;
+    let shutter = shutter_at(tables, i);
+    match number {
+        14 => two(field.gate as u64, field.lines as u64),
+        15 => gate_figures(tables, field, i),
+        16 => two(subck.toggle1 as u64, subck.toggle2 as u64),
+        _ => two(shutter.on_line as u64, shutter.off_line as u64),
+    }
+}
+
+// ---- of a script
+
+// 7 to 17, of a profile.
+fn profile_figures(profile: Profile, number: u16, i: usize) -> Figures
+    ensures { λ r. ⌜ r ≡ profileFigures profile number i ⌝ }
+{
+    let tables = profile.tables;
+    let field = profile.field;
+    if number <= 13 {
+        return region_figures(tables, field, number, i);
+    }
+    field_figures(tables, field, number, i)
+}
+
+// Of a script and its verdict.
+fn figures_by(script: &[u8], verdict: Verdict) -> Figures
+    ensures { λ r. ⌜ r ≡ figuresBy (now (script .entry)) verdict ⌝ }
+{
+    if verdict.number <= 1 {
+        return two(0, 0);
+    }
+    if verdict.number <= 5 {
+        let from = rest_from(script, verdict.place);
+        return record_figures(verdict.number, &script[from..]);
+    }
+    if verdict.number <= 6 {
+        return two(0, 0);
+    }
+    let answer = read_records(script);
+    let profile = answer.profile;
+    profile_figures(profile, verdict.number, verdict.place as usize)
+}
+
+// The figures of what reading a script answers.
+pub(crate) fn figures_of(script: &[u8]) -> Figures
+    ensures { λ r. ⌜ r ≡ figuresOf (now (script .entry)) ⌝ }
+{
+    let answer = profile::read(script);
+    let verdict = answer.verdict;
+    figures_by(script, verdict)
+}
