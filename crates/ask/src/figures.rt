@@ -1,25 +1,24 @@
 // The figures of a refusal: the two numbers that its sentence tells besides its place.
 use crate::question::byte_at;
 use profile::Field;
-use profile::Gate;
 use profile::Profile;
-use profile::Shutter;
 use profile::Tables;
 use profile::Verdict;
 use profile::end_line;
+use profile::gate_of;
 use profile::line_length;
 use profile::pattern_of;
 use profile::read_records;
 use profile::region_at;
 use profile::region_pixels;
 use profile::sequence_at;
+use profile::shutter_of;
 ghost use mathlib.Core.Path.{_≡_};
 ghost use mathlib.Core.Bool.{cond};
 ghost use Prim.Native.Nat.{_+_, _*_, _<_, min};
 ghost use lib.Dec.{ltb};
 ghost use lib.ListN.{length};
 ghost use Rattle.profile.specs.Bytes.{numberAt};
-ghost use Rattle.profile.specs.Geometry.{gateOf, shutterOf};
 ghost use Rattle.ask.specs.Figures.{figures, recordFigures, runFigures, regionFigures, fieldFigures, profileFigures, figuresBy, figuresOf};
 
 pub struct Figures {
@@ -117,44 +116,11 @@ fn region_figures(tables: Tables, field: Field, number: u16, i: usize) -> Figure
 
 // ---- of the field
 
-// Gate i; all zeros where there is none.
-fn gate_at(tables: Tables, i: usize) -> Gate
-    ensures { λ r. ⌜ r ≡ gateOf tables i ⌝ }
-{
-    if i < 5 {
-        return tables.gates[i];
-    }
-    Gate {
-        present: false,
-        on: 0,
-        level: 0,
-        toggle1: 0,
-        toggle2: 0,
-    }
-}
-
-// Shutter i; all zeros where there is none.
-fn shutter_at(tables: Tables, i: usize) -> Shutter
-    ensures { λ r. ⌜ r ≡ shutterOf tables i ⌝ }
-{
-    if i < 2 {
-        return tables.shutters[i];
-    }
-    Shutter {
-        present: false,
-        active: 0,
-        on_line: 0,
-        on_pixel: 0,
-        off_line: 0,
-        off_pixel: 0,
-    }
-}
-
 // 15, at gate i.
 fn gate_figures(tables: Tables, field: Field, i: usize) -> Figures
     ensures { λ r. ⌜ r ≡ fieldFigures tables field 15 i ⌝ }
 {
-    let gate = gate_at(tables, i);
+    let gate = gate_of(tables, i);
     let length = line_length(tables, field, field.gate as u64);
     two(gate.toggle2 as u64, length as u64)
 }
@@ -164,7 +130,7 @@ fn field_figures(tables: Tables, field: Field, number: u16, i: usize) -> Figures
     ensures { λ r. ⌜ r ≡ fieldFigures tables field number i ⌝ }
 {
     let subck = tables.subck;
-    let shutter = shutter_at(tables, i);
+    let shutter = shutter_of(tables, i);
     match number {
         14 => two(field.gate as u64, field.lines as u64),
         15 => gate_figures(tables, field, i),

@@ -1,10 +1,14 @@
 // Regions, lines and their lengths: the product forms of the sums that the definitions are.
 use crate::Field;
+use crate::Gate;
 use crate::Region;
 use crate::Sequence;
+use crate::Shutter;
 use crate::Tables;
+use crate::values::empty_gate;
 use crate::values::empty_region;
 use crate::values::empty_sequence;
+use crate::values::empty_shutter;
 ghost use mathlib.Core.Path.{_≡_};
 ghost use Prim.Native.Nat.{_<_, _≤_, _+_, _*_};
 ghost use lib.Dec.{eqb};
@@ -14,6 +18,8 @@ ghost use Rattle.profile.specs.Geometry.{
   regionOf,
   endLine,
   sequenceOf,
+  gateOf,
+  shutterOf,
   sequenceAt,
   lengthIn,
   lineLength,
@@ -84,6 +90,26 @@ pub fn sequence_of(tables: Tables, k: u16) -> Sequence
         return tables.sequences[k as usize];
     }
     empty_sequence()
+}
+
+// Gate k, VSG1 being gate 0; all zeros where there is none.
+pub fn gate_of(tables: Tables, k: usize) -> Gate
+    ensures { λ r. ⌜ r ≡ gateOf tables k ⌝ }
+{
+    if k < 5 {
+        return tables.gates[k];
+    }
+    empty_gate()
+}
+
+// Shutter k, MSHUT being shutter 0; all zeros where there is none.
+pub fn shutter_of(tables: Tables, k: usize) -> Shutter
+    ensures { λ r. ⌜ r ≡ shutterOf tables k ⌝ }
+{
+    if k < 2 {
+        return tables.shutters[k];
+    }
+    empty_shutter()
 }
 
 // The sequence of region i.

@@ -10,6 +10,7 @@ mod values;
 mod writing;
 
 pub use geometry::end_line;
+pub use geometry::gate_of;
 pub use geometry::has_pixel;
 pub use geometry::length_in;
 pub use geometry::line_length;
@@ -21,6 +22,7 @@ pub use geometry::region_pixels;
 pub use geometry::repetitions;
 pub use geometry::sequence_at;
 pub use geometry::sequence_of;
+pub use geometry::shutter_of;
 pub use patterns::pattern_of;
 pub use patterns::rows_of;
 pub use records::read;

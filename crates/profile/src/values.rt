@@ -71,7 +71,7 @@ pub(crate) fn empty_sequence() -> Sequence
     }
 }
 
-fn empty_gate() -> Gate
+pub(crate) fn empty_gate() -> Gate
     ensures { λ r. ⌜ r ≡ emptyGate ⌝ }
 {
     Gate {
@@ -96,7 +96,7 @@ fn empty_subck() -> Subck
     }
 }
 
-fn empty_shutter() -> Shutter
+pub(crate) fn empty_shutter() -> Shutter
     ensures { λ r. ⌜ r ≡ emptyShutter ⌝ }
 {
     Shutter {
