@@ -42,9 +42,9 @@ try "a list through a link" 0 "$w1" "" "$work/link" examples/base.bin
 try "a refusal" 1 "refused 13 0" "$too_far" "$booth" examples/refused.bin
 try "an empty script" 1 "refused 6 0" "booth: refused 6: the script gives no field; .*" "$booth" /dev/null
 head -c 100 examples/base.bin > "$work/cut"
-try "a script cut off in a header" 1 "refused 2 98" "booth: refused 2: the record at byte 98 needs 4 bytes and 2 are left; .*" "$booth" "$work/cut"
+try "a script cut off in a header" 1 "refused 2 98" "booth: refused 2: the record at byte 98 needs at least 4 bytes and only 2 are left; .*" "$booth" "$work/cut"
 head -c 117 examples/base.bin > "$work/cut"
-try "a script cut off in a body" 1 "refused 2 98" "booth: refused 2: the record at byte 98 needs 20 bytes and 19 are left; .*" "$booth" "$work/cut"
+try "a script cut off in a body" 1 "refused 2 98" "booth: refused 2: the record at byte 98 needs at least 20 bytes and only 19 are left; .*" "$booth" "$work/cut"
 { cat examples/base.bin; printf '\1\0\7\0'; } > "$work/kind"
 try "a kind that is none" 1 "refused 3 118" "booth: refused 3: the record at byte 118 has kind 7, .*" "$booth" "$work/kind"
 yes | try "an input that never ends" 1 "refused 1 0" "booth: refused 1: the script is longer than 16,384 bytes; .*" "$booth"
@@ -127,6 +127,8 @@ done
 # ---- input that cannot be read
 try "a missing file" 2 "" "booth: no/such/file: no such file" "$booth" no/such/file
 try "a directory" 2 "" "booth: examples: is a directory" "$booth" examples
+try "a missing file of two lines" 2 "" "booth: no.such: no such file" "$booth" $'no\nsuch'
+try "options of another shell" 2 "" "booth: no/such/file: no such file" env SHELLOPTS=errexit:noclobber:xtrace POSIXLY_CORRECT=1 LC_ALL=de_DE BASH_ENV=/dev/stdin "$booth" no/such/file
 try "a directory, check" 2 "" "booth: examples: is a directory" "$booth" check examples
 try "a directory on standard input" 2 "" "booth: standard input: cannot be read" "$booth" < examples
 try "a file whose read fails" 2 "" "booth: /proc/self/mem: cannot be read" "$booth" /proc/self/mem
@@ -141,6 +143,7 @@ fi
 try_closed() { timeout 60 "$booth" "$@" <&- > "$work/out" 2> "$work/err"; }
 try_closed; saw $? "a closed input" 2 "" "booth: standard input is closed"
 try_closed -; saw $? "a closed input, -" 2 "" "booth: standard input is closed"
+try_closed /dev/stdin; saw $? "a closed input by name" 2 "" "booth: /dev/stdin: is a directory"
 try_closed check -; saw $? "a closed input, check" 2 "" "booth: standard input is closed"
 try_closed examples/base.bin; saw $? "a closed input and a file" 0 "$w1" ""
 try_closed level examples/base.bin 0 0; saw $? "a closed input, a file, level" 0 "word 0FC1" ""
@@ -162,6 +165,8 @@ timeout 60 "$booth" <&- >&- 2>&-; saw $? "everything closed" 2 "" ""
 : > "$work/out"
 { sleep 0.3; timeout 60 "$booth" examples/sweep.bin 2> "$work/err"; } | true; saw "${PIPESTATUS[0]}" "an output that closes early" 141 "" ""
 (trap "" PIPE; sleep 0.3; timeout 60 "$booth" examples/sweep.bin 2> "$work/err") | true; saw "${PIPESTATUS[0]}" "an output that closes early, no signal" 141 "" ""
+(ulimit -f 0; timeout 60 "$booth" examples/base.bin > "$work/limited") 2>&1 | cat > "$work/err"
+saw "${PIPESTATUS[0]}" "a limit on a file's size" 2 "" "booth: cannot write standard output: signal XFSZ"
 mkdir "$work/small"
 if mount -t tmpfs -o size=4k none "$work/small" 2> /dev/null; then
   # a list of more bytes than the disk has: 700 lines, each a step low and a step high
@@ -178,12 +183,12 @@ fi
 copy=$work/copy
 fresh() {
   rm -rf "$copy"
-  mkdir -p "$copy/docs" "$copy/target/bin"
+  mkdir -p "$copy/docs" "$copy/target/bin" "$copy/target/stamp"
   cp booth crates.txt "$copy/"; cp docs/RULES.md "$copy/docs/"
   for name in $(sed 's/#.*//; s/:.*//' crates.txt); do mkdir -p "$copy/crates/$name/src"; done
   find "$copy" -exec touch -d '1 hour ago' {} +
 }
-stub() { printf '#!/usr/bin/env bash\n%s\n' "$2" > "$copy/target/bin/$1"; chmod +x "$copy/target/bin/$1"; }
+stub() { printf '#!/usr/bin/env bash\n%s\n' "$2" > "$copy/target/bin/$1"; chmod +x "$copy/target/bin/$1"; : > "$copy/target/stamp/$1"; }
 fresh
 stub ask 'cat > /dev/null; echo 1 2'
 stub booth 'cat > /dev/null; echo "steps 7 pixels 20"; echo "3 0FC1"; kill -KILL $$'
@@ -204,7 +209,7 @@ try "a question that crashes" 2 "" "booth: the program ask crashed: signal SEGV"
 rm "$copy/docs/RULES.md"
 try "no rule book" 1 "refused 13 0" "booth: refused 13: see docs/RULES.md, place 0" "$copy/booth" examples/base.bin
 
-# ---- the first use, with a stub for the prover, which takes some time and then has the program
+# ---- the first use, with a stub for the prover, which takes some time, makes the program where there is no stamp of it, and then the stamp
 mkdir "$work/tools"
 cat > "$work/tools/rt" << END
 #!/usr/bin/env bash
@@ -212,7 +217,11 @@ cat > "$work/tools/rt" << END
 echo "\$2" >> $work/proved
 sleep "\${RT_SLEEP:-0.1}"
 [ "\$2" != "\${RT_FAILS:-}" ] || { echo 'not proved'; exit 1; }
+mkdir -p target/stamp
+[ ! -f target/stamp/\$2 ] || exit 0
 case \$2 in booth | ask) [ -n "\${RT_EMPTY:-}" ] || cp $PWD/target/bin/\$2 target/bin/ ;; esac
+[ "\$2" != "\${RT_RUN_FAILS:-}" ] || { echo 'wrote something else'; exit 1; }
+: > target/stamp/\$2
 END
 chmod +x "$work/tools/rt"
 with() { PATH=$work/tools:$PATH "$@"; }
@@ -228,6 +237,14 @@ touch "$copy/crates/cases/src"
 with try "a source that matters to no program is newer" 0 "$w1" "" "$copy/booth" examples/base.bin; proved "$order " "a source that does not matter"
 touch "$copy/crates/level/src"
 with try "a newer source" 0 "$w1" "$steps" "$copy/booth" examples/base.bin; proved "$order $order " "a newer source"
+
+# a program that is gone is made anew; one whose check went wrong after it was linked is not used
+rm "$copy/target/bin/ask"
+with try "a program that is gone" 0 "$w1" "$steps" "$copy/booth" examples/base.bin
+fresh
+for _ in 1 2; do
+  RT_RUN_FAILS=booth with try "a program that prints something else" 2 "" ".*booth: not built: booth is not proved: $copy/target/booth.log says why" "$copy/booth" examples/base.bin
+done
 
 # two first uses at once, and one that is killed while it proves: one proof at a time, and both get their list
 fresh; rm -f "$work/proved"

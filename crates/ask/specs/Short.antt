@@ -1,4 +1,5 @@
--- Text that is put from a slice's first byte on and is at most as long as the longest script.
+-- Nobody has to believe this file: it names what a function of answers does, which is to put a text from the slice's first byte on that is no longer than
+-- the longest script, so that the room holds it.
 -- Assumes nothing.
 use Prim.Native.Nat.{ℕ, _≤_}
 use mathlib.Core.List.{List}
