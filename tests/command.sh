@@ -248,7 +248,7 @@ done
 
 # two first uses at once, and one that is killed while it proves: one proof at a time, and both get their list
 fresh; rm -f "$work/proved"
-with timeout 60 "$copy/booth" examples/base.bin > "$work/out1" 2> "$work/err1" & first=$!
+RT_SLEEP=0.5 with timeout 60 "$copy/booth" examples/base.bin > "$work/out1" 2> "$work/err1" & first=$!
 for _ in {1..100}; do [ -s "$work/proved" ] && break; sleep 0.05; done
 with try "a first use while another proves" 0 "$w1" "booth: another first use is proving the programs: waiting for it" "$copy/booth" examples/base.bin
 wait "$first"; status=$?
