@@ -1,6 +1,6 @@
 -- Laws of the answers: how long each line is, what is put by a verdict, by a line's test and by its letter.
 -- Assumes nothing.
-use Prim.Native.Nat.{ℕ, _+_, _-_, _^_, _≤_, _<_, min}
+use Prim.Native.Nat.{ℕ, _^_, _≤_, _<_}
 use native.Mathlib.Omega.{arith}
 use mathlib.Core.Path.{_≡_, refl, ap, _∙_}
 use mathlib.Core.Bool.{Bool, true, false, cond, not}
@@ -15,7 +15,6 @@ use Rattle.profile.specs.declared.Profile.{Profile}
 use Rattle.profile.specs.declared.Verdict.{Verdict}
 use Rattle.profile.specs.declared.ReadAnswer.{ReadAnswer}
 use Rattle.profile.specs.declared.Written.{Written}
-use Rattle.profile.proofs.Laws.{rest-dropped}
 use Rattle.profile.proofs.Sizes.{script-high}
 use Rattle.level.specs.declared.LevelAnswer.{LevelAnswer}
 use Rattle.level.specs.declared.Located.{Located}
@@ -23,7 +22,7 @@ use Rattle.holdlist.specs.Text.{valueOf}
 use Rattle.holdlist.proofs.Puts.{puts-none, puts-whole}
 use Rattle.holdlist.proofs.Spelling.{decimal-length, refused-length}
 use Rattle.ask.specs.declared.figures.Figures.{Figures}
-use Rattle.ask.specs.Question.{endOf, mostLine, lineOf, letterOf, numbersOf, firstOf, secondOf, alone, withOne, withTwo}
+use Rattle.ask.specs.Question.{endOf, mostLine, lineOf, scriptOf, letterOf, numbersOf, firstOf, secondOf, alone, withOne, withTwo}
 use Rattle.ask.specs.Answer.{
   wordLine,
   placeLine,
@@ -42,7 +41,7 @@ use Rattle.ask.specs.Answer.{
   asked,
 }
 use Rattle.ask.specs.Short.{PutsShort}
-use borrow.Rule.Slice.PartMut.{midOf}
+use Rattle.ask.proofs.Asking.{end-inside}
 
 -- ---- lines, and how long they are: a u64 has at most 20 digits
 
@@ -170,20 +169,18 @@ module _ (line s : List ℕ) (letter : ℕ) (e : letter ≡ letterOf line) where
 
 -- ---- the whole input
 
--- by where its first line ends, and where the script begins
-module _ (input : List ℕ) (end : ℕ) (e : end ≡ endOf 10 input) (h : end ≤ length input) where
-  line-length : length (lineOf input) ≡ end
-  line-length = rw (← e) (length-take-le end input h)
+-- by where its first line ends
+module _ (input : List ℕ) where
+  line-length : length (lineOf input) ≡ endOf 10 input
+  line-length = length-take-le (endOf 10 input) input (end-inside 10 input)
 
-  pub line-long : mostLine < end → [] ≡ asked input
+  pub asked-none : mostLine < endOf 10 input → asked input ≡ []
   unfolding asked
-  line-long g = rw (line-length, lt-leb end mostLine g)
+  asked-none h = rw (line-length, lt-leb (endOf 10 input) mostLine h)
 
-  pub line-fits :
-      (from : ℕ) → from ≡ min (end + 1) (length input) → end ≤ mostLine →
-      answerOf (take end input) (midOf from (length input - from) input) ≡ asked input
+  pub asked-answer : endOf 10 input ≤ mostLine → asked input ≡ answerOf (lineOf input) (scriptOf input)
   unfolding asked
-  line-fits from f g = rw (line-length, le-leb end mostLine g, rest-dropped (end + 1) from input f, e)
+  asked-answer h = rw (line-length, le-leb (endOf 10 input) mostLine h)
 
 -- short text fits the room whole
 pub short-whole : {text l l′ : List ℕ} {n : ℕ} → PutsShort text l n l′ → length l ≡ 1400 → (n ≤ 1400) × (take n l′ ≡ text)

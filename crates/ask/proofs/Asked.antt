@@ -37,6 +37,7 @@ use Rattle.ask.specs.Answer.{
   answerOf,
   asked,
 }
+use Rattle.ask.proofs.Answering.{asked-none, asked-answer}
 
 -- ---- scripts that are too long are answered alike
 
@@ -70,30 +71,12 @@ module _ (line s t : List ℕ) (h : mostBytes < length s) (g : mostBytes < lengt
 
 -- ---- the first line of a part
 
-pub end-inside : (c : ℕ) (s : List ℕ) → endOf c s ≤ length s
-unfolding endOf
-end-inside c [] = omega arith
-end-inside c (x ∷ s) =
-    by-cases (eqb x c) (λ q. rw q (omega arith)) (λ q. rw q (omega (arith, end-inside c s)))
-
 end-taken : (c n : ℕ) (s : List ℕ) → endOf c (take n s) ≡ min (endOf c s) n
 unfolding endOf
 end-taken c zero s = omega arith
 end-taken c (suc n) [] = omega arith
 end-taken c (suc n) (x ∷ s) =
     by-cases (eqb x c) (λ q. rw q (omega arith)) (λ q. rw q (omega (arith, end-taken c n s)))
-
-module _ (input : List ℕ) where
-  line-length : length (lineOf input) ≡ endOf 10 input
-  line-length = length-take-le (endOf 10 input) input (end-inside 10 input)
-
-  asked-none : mostLine < endOf 10 input → asked input ≡ []
-  unfolding asked
-  asked-none h = rw (line-length, lt-leb (endOf 10 input) mostLine h)
-
-  asked-answer : endOf 10 input ≤ mostLine → asked input ≡ answerOf (lineOf input) (scriptOf input)
-  unfolding asked
-  asked-answer h = rw (line-length, le-leb (endOf 10 input) mostLine h)
 
 -- ---- THE PROGRAM MAY STOP READING after 16,509 bytes: a line of 123, its end, and 16,385 of a script
 

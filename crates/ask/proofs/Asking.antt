@@ -1,21 +1,26 @@
--- Laws of a question's parts: where a byte stands first, what follows it, tests of digits, and a number that is cut while it is read.
+-- Laws of a question's parts: where a byte stands first, and a number that is cut while it is read.
 -- Assumes nothing.
 use Prim.Native.Nat.{ℕ, suc, _+_, _*_, _-_, _≤_, _<_, min}
 use native.Mathlib.Numerals.{add-one}
 use native.Mathlib.Omega.{arith}
 use mathlib.Core.Path.{_≡_, refl, sym, ap, _∙_}
-use mathlib.Core.Bool.{Bool, true, false, cond, _&&_}
+use mathlib.Core.Bool.{cond}
 use mathlib.Core.List.{List, [], _∷_}
-use lib.Dec.{leb, eqb}
+use lib.Dec.{eqb}
 use lib.ListN.{length, getD, drop, drop-of-length-le}
 use lib.Seq.{drop-cons}
 use borrow.Author.Tests.{eq-eqb, ne-eqb}
-use Rattle.profile.specs.Lists.{all, chunks}
-use Rattle.profile.proofs.Laws.{all-append, all-cons, all-one, chunks-more}
+use Rattle.profile.proofs.Laws.{by-cases}
 use Rattle.holdlist.specs.Text.{valueAfter, valueOf}
-use Rattle.ask.specs.Question.{endOf, digitTest, isNumber, firstOf, secondOf, withTwo}
+use Rattle.ask.specs.Question.{endOf}
 
 -- ---- where a byte stands first
+
+pub end-inside : (c : ℕ) (s : List ℕ) → endOf c s ≤ length s
+unfolding endOf
+end-inside c [] = omega arith
+end-inside c (x ∷ s) =
+    by-cases (eqb x c) (λ q. rw q (omega arith)) (λ q. rw q (omega (arith, end-inside c s)))
 
 -- it does not stand among the first i bytes
 pub record Sought (c : ℕ) (s : List ℕ) (i : ℕ) : Type 0 where
@@ -48,50 +53,6 @@ module _ {c : ℕ} {s : List ℕ} where
         omega (arith, p .left)
 
 pub ruleset seeking = (sought-none, sought-more)
-
--- ---- digits
-
--- the first i bytes are tested, after a test of the length
-pub record Digits (s : List ℕ) (i : ℕ) (r : Bool) : Type 0 where
-  pub within : i ≤ length s
-  pub told : r ≡ (leb 1 (length s) && all (chunks i (digitTest s)))
-
-and-true : (a : Bool) → a ≡ (a && true)
-and-true true = refl
-and-true false = refl
-
-and-two : (a b c : Bool) → (a && (b && c)) ≡ (a && b && c)
-and-two true b c = refl
-and-two false b c = refl
-
-and-more : (a b c d : Bool) → (a && b && c && d) ≡ (a && (b && (c && d)))
-and-more true b c d = sym (and-two b c d)
-and-more false b c d = refl
-
-module _ {s : List ℕ} where
-  pub digits-none : Digits s 0 (leb 1 (length s))
-  unfolding all chunks
-  digits-none = record { within = omega arith; told = and-true _ }
-
-  pub digits-more :
-      {i : ℕ} {r : Bool} → Digits s i r → i < length s → Digits s (i + 1) (r && leb 48 (getD s i 0) && leb (getD s i 0) 57)
-  digits-more {i} p h =
-      record {
-        within = omega arith;
-        told = rw (p .told, chunks-more, all-append, all-cons, all-one) (and-more (leb 1 (length s)) (all (chunks i (digitTest s))) (leb 48 (getD s i 0)) (leb (getD s i 0) 57));
-      }
-
-  pub digits-all : {i : ℕ} {r : Bool} → Digits s i r → length s ≤ i → r ≡ isNumber s
-  unfolding isNumber
-  digits-all {i} p h = let e : i ≡ length s = omega (arith, p .within) in rw e at (p .told)
-
--- a letter with two numbers, by its parts
-pub two-right :
-    (line : List ℕ) → (eqb (getD line 1 0) 32 && (isNumber (firstOf line) && isNumber (secondOf line))) ≡ withTwo line
-unfolding withTwo
-two-right line = and-two (eqb (getD line 1 0) 32) (isNumber (firstOf line)) (isNumber (secondOf line))
-
-pub ruleset testing = (digits-none, digits-more)
 
 -- ---- a number that is cut while it is read
 

@@ -31,8 +31,11 @@ abbrev pub mostLine : ℕ
 mostLine = 123
 
 -- a decimal number: digits, one at least
+abbrev pub isDigit : ℕ → Bool
+isDigit d = leb 48 d && leb d 57
+
 abbrev pub digitTest : List ℕ → ℕ → List Bool
-digitTest ds i = leb 48 (getD ds i 0) ∷ leb (getD ds i 0) 57 ∷ []
+digitTest ds i = isDigit (getD ds i 0) ∷ []
 
 unfoldable pub isNumber : List ℕ → Bool
 isNumber ds = leb 1 (length ds) && all (chunks (length ds) (digitTest ds))
@@ -58,4 +61,4 @@ unfoldable pub withOne : List ℕ → Bool
 withOne line = eqb (getD line 1 0) 32 && isNumber (numbersOf line)
 
 unfoldable pub withTwo : List ℕ → Bool
-withTwo line = eqb (getD line 1 0) 32 && isNumber (firstOf line) && isNumber (secondOf line)
+withTwo line = eqb (getD line 1 0) 32 && (isNumber (firstOf line) && isNumber (secondOf line))

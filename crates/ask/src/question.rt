@@ -3,8 +3,9 @@ ghost use mathlib.Core.Path.{_≡_};
 ghost use mathlib.Core.Bool.{_&&_};
 ghost use Prim.Native.Nat.{_+_, _-_, _≤_, _<_, min};
 ghost use lib.ListN.{length, getD};
+ghost use Rattle.profile.specs.Lists.{all, chunks};
 ghost use Rattle.holdlist.specs.Text.{valueOf};
-ghost use Rattle.ask.specs.Question.{endOf, before as beforeText, after as afterText, isNumber, numbersOf, firstOf, secondOf, alone as aloneLine, withOne, withTwo};
+ghost use Rattle.ask.specs.Question.{endOf, before as beforeText, after as afterText, isDigit, digitTest, isNumber, numbersOf, firstOf, secondOf, alone as aloneLine, withOne, withTwo};
 
 // ---- parts
 
@@ -38,17 +39,29 @@ pub(crate) fn after_end(length: usize, end: usize) -> usize
 
 // ---- numbers
 
+fn is_digit(byte: u8) -> bool
+    ensures { λ r. ⌜ r ≡ isDigit byte ⌝ }
+{
+    (48 <= byte) & (byte <= 57)
+}
+
+fn all_digits(bytes: &[u8]) -> bool
+    ensures { λ r. ⌜ r ≡ all (chunks (length (now (bytes .entry))) (digitTest (now (bytes .entry)))) ⌝ }
+{
+    let mut right = true;
+    let mut i: usize = 0;
+    while i < bytes.len() {
+        right = right & is_digit(bytes[i]);
+        i += 1;
+    }
+    right
+}
+
 // Digits, one at least.
 fn is_number(bytes: &[u8]) -> bool
     ensures { λ r. ⌜ r ≡ isNumber (now (bytes .entry)) ⌝ }
 {
-    let mut right = 1 <= bytes.len();
-    let mut i: usize = 0;
-    while i < bytes.len() {
-        right = right & (48 <= bytes[i]) & (bytes[i] <= 57);
-        i += 1;
-    }
-    right
+    (1 <= bytes.len()) & all_digits(bytes)
 }
 
 fn digit_of(byte: u8) -> u64

@@ -2,14 +2,15 @@
 -- Assumes nothing.
 use borrow.Author.Needs.{needs}
 use Rattle.profile.proofs.Laws.{rest-dropped}
-use Rattle.ask.proofs.Asking.{two-right}
+use Rattle.ask.specs.Question.{withTwo}
 use Rattle.ask.proofs.question.with_two.Statement.{statement}
 use Rattle.ask.proofs.question.with_two.Tie as tie
 
 returns : tie.Need-returns
+unfolding withTwo
 returns c =
     let b = c .before .before in
-    rw (c .are-two .ensures, b .byte-at .ensures, rest-dropped _ _ _ (b .before .after-end .ensures)) (two-right (b .before .before .before .args .line .now))
+    rw (c .are-two .ensures, b .byte-at .ensures, rest-dropped _ _ _ (b .before .after-end .ensures))
 
 pub with-two-spec : {M : Type 1} → statement M
 with-two-spec =
