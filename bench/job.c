@@ -28,6 +28,12 @@ static void refuse(int number, unsigned long place) {
     exit(0);
 }
 
+// Refusal 10, with the output and its toggle, each counted from 1, of one of the 18 toggles, counted from 0.
+static void refuse_toggle(int region, int i) {
+    printf("refused 10 %d %d %d\n", region, i / 3 + 1, i % 3 + 1);
+    exit(0);
+}
+
 // Reading: one record after another, a later one replaces an earlier one.
 
 static uint16_t number(const uint8_t *body, int i) { return body[2 * i] | body[2 * i + 1] << 8; }
@@ -144,12 +150,12 @@ static uint64_t region_size(int i) {
     return end_of(i) == the_field.lines ? (lines - 1) * length + the_field.last : lines * length;
 }
 
-// Rule 10, where toggles from `unused` on are unused.
-static bool in_order(const pattern *a, uint16_t unused) {
+// Rule 10, where toggles from `unused` on are unused: which of the 18, counted from 0, is the first out of order, or 0 for none (0 never is).
+static int out_of_order(const pattern *a, uint16_t unused) {
     for (int k = 0; k < 6; k++)
         for (int i = 3 * k + 1; i < 3 * k + 3; i++)
-            if (a->toggles[i] < unused && a->toggles[i - 1] >= a->toggles[i]) return false;
-    return true;
+            if (a->toggles[i] < unused && a->toggles[i - 1] >= a->toggles[i]) return i;
+    return 0;
 }
 
 static uint16_t highest_used(const pattern *a) {
@@ -171,7 +177,8 @@ static void check_region(int i) {
     if (!s->given) refuse(8, i);
     pattern a = pattern_of(s->pattern);
     if (a.length == 0) refuse(9, i);
-    if (!in_order(&a, r->mode == MULTIPLIER ? UNUSED : a.length)) refuse(10, i);
+    int toggle = out_of_order(&a, r->mode == MULTIPLIER ? UNUSED : a.length);
+    if (toggle) refuse_toggle(i, toggle);
     if (r->mode == PLAIN) {
         if (!masks_allowed(&a, s->mask)) refuse(11, i);
         return;
@@ -186,7 +193,7 @@ static bool second_allowed(unsigned line) {
     const sequence *s = &sequences[r->sequence];
     pattern a = pattern_of(the_field.second);
     unsigned repetitions = s->counts[line % 2];
-    return r->mode == PLAIN && a.length != 0 && in_order(&a, UNUSED) && a.length < line_length(line) &&
+    return r->mode == PLAIN && a.length != 0 && !out_of_order(&a, UNUSED) && a.length < line_length(line) &&
            (repetitions == 0 || s->start + repetitions * half(s->pattern, 1) <= a.length);
 }
 

@@ -1,6 +1,6 @@
 #!/usr/bin/env bash
 # Asks the entry points and a second implementation, reference/, the same questions and compares every answer, byte by byte: the stored batch, and
-# a random one with a fresh seed (CASES_SEED=N repeats one). Then breaks one rule of a copy of the second implementation, which must be noticed.
+# a random one with a fresh seed (CASES_SEED=N repeats one). Then breaks one rule in each of two copies of the second implementation, which must be noticed.
 set -u
 cd "$(dirname "$0")/.." || exit 1
 program=$PWD/target/bin/cases
@@ -42,21 +42,21 @@ echo "cases: seed $seed"
 compare stored
 compare random
 
-# one rule broken: 18 asks for one step of room too many
-mkdir "$work/broken"
-cp -r reference/Cargo.toml reference/Cargo.lock reference/src "$work/broken/"
-sed -i 's/demand(needed <= room, NO_ROOM/demand(needed < room, NO_ROOM/' "$work/broken/src/list.rs"
-if cmp -s reference/src/list.rs "$work/broken/src/list.rs"; then
-  fail "the edit that breaks a rule changes nothing"
-else
+# broken WHAT FILE EDIT: a copy in which sed's edit of the file breaks a rule must answer otherwise
+broken() {
+  rm -rf "$work/broken" "$work/broken-target" && mkdir "$work/broken" && cp -r reference/Cargo.toml reference/Cargo.lock reference/src "$work/broken/"
+  sed -i "$3" "$work/broken/src/$2"
+  cmp -s "reference/src/$2" "$work/broken/src/$2" && { fail "$1: the edit that breaks it changes nothing"; return; }
   build "$work/broken" "$work/broken-target"
-  timeout 600 "$work/broken-target/release/answers" < "$work/stored.batch" > "$work/broken.expected"
+  timeout 600 "$work/broken-target/release/answers" < "$work/stored.batch" > "$work/broken.expected" || { fail "$1: the broken copy does not answer"; return; }
   if cmp -s "$work/broken.expected" "$work/stored.got"; then
-    fail "a broken rule goes unnoticed"
+    fail "$1: goes unnoticed"
   else
-    echo "cases: a broken rule is noticed at $(differs "$work/broken.expected" "$work/stored.got")"
+    echo "cases: $1: noticed at $(differs "$work/broken.expected" "$work/stored.got")"
   fi
-fi
+}
+broken "18 asks for one step of room too many" list.rs 's/demand(needed <= room, NO_ROOM/demand(needed < room, NO_ROOM/'
+broken "10 names the highest output out of order" rules.rs 's/(1\.\.=OUTPUTS)\.find_map/(1..=OUTPUTS).rev().find_map/'
 
 # a batch at fault: one line on standard error, and no answer
 fault() {

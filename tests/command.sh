@@ -65,10 +65,25 @@ while IFS=$'\t' read -r name script printed; do
   seen="${seen:-} $number" sentences=$((sentences + 1))
   bytes "$script" > "$work/script"
   try "the sentence of $number ($name)" 1 "${printed%|}" "booth: refused $number: [^{}]*[a-z0-9]" "$booth" "$work/script"
+  [ "$number" -ne 10 ] || cp "$work/script" "$work/toggle"
 done < <(grep -v '^#' tests/vectors.tsv | grep -P '\trefused ')
 [ "$sentences" -eq 18 ] || { bad=$((bad + 1)); echo "command: $sentences sentences were seen, and not those of 1 to 18"; }
 rows=$(sed -n '/^## Refusals/,/^## /p' docs/RULES.md | grep -E '^\| [0-9]+ \| [^|]*[^| ] \|' | cut -d' ' -f2 | tr '\n' ' ')
 [ "$rows" == "$(seq -s ' ' 20) " ] || { bad=$((bad + 1)); echo "command: the sentences of docs/RULES.md are of: $rows"; }
+
+# 10 names the output, the toggle and the two numbers that collide, whatever was asked: W2, where toggle 3 of V1 is 0 after 3
+w2='booth: refused 10: region 0 uses pattern 0, in which V1, toggle 3, is 0 and the one before it 3; used toggles come first and rise strictly: .*'
+for question in "" check write level locate; do
+  case $question in level) at=(0 0) ;; locate) at=(0) ;; *) at=() ;; esac
+  try "10, ${question:-the list}" 1 "refused 10 0 1 3" "$w2" "$booth" ${question:+"$question"} "$work/toggle" "${at[@]}"
+done
+# all numbers different: region 1, sequence 4, pattern 7, V3, toggle 2
+{
+  cat examples/base.bin
+  printf '\4\0\1\0\x54\0\x90\0\4\0\1\0\x55\xff\xff\xff\4\0\1\0\x56\xff\xff\xff\4\0\1\0\x57\xff\xff\xff\4\0\1\0\x58\x06\x50\0'
+  printf '\16\0\2\0\4\0\7\0\12\0\0\0\1\0\1\0\0\0\26\0\3\0\2\0\12\0\0\0\xff\xff\2\0\0\0\0\0\0\0\1\0\4\0\0\0'
+} > "$work/toggle"
+try "10 of a later region" 1 "refused 10 1 3 2" "booth: refused 10: region 1 uses pattern 7, in which V3, toggle 2, is 5 and the one before it 6; .*" "$booth" "$work/toggle"
 
 # ---- the other questions
 try "check" 0 "accepted" "" "$booth" check examples/base.bin
@@ -190,7 +205,7 @@ fresh() {
 }
 stub() { printf '#!/usr/bin/env bash\n%s\n' "$2" > "$copy/target/bin/$1"; chmod +x "$copy/target/bin/$1"; : > "$copy/target/stamp/$1"; }
 fresh
-stub ask 'cat > /dev/null; echo 1 2'
+stub ask 'cat > /dev/null; echo 1 2 3'
 stub booth 'cat > /dev/null; echo "steps 7 pixels 20"; echo "3 0FC1"; kill -KILL $$'
 try "a program that is killed halfway" 2 "" "booth: the program booth crashed: signal KILL" "$copy/booth" examples/base.bin
 stub booth 'kill -SEGV $$'
@@ -203,6 +218,9 @@ printf '\177ELF\0' > "$copy/target/bin/booth"
 try "a program that is none" 2 "" "booth: the program booth failed: status 12[67]" "$copy/booth" examples/base.bin
 stub booth 'cat > /dev/null; echo "refused 13 0"'
 try "a refusal with figures" 1 "refused 13 0" "booth: refused 13: in region 0 the run ends at pixel 1 of 2; .*" "$copy/booth" examples/base.bin
+stub booth 'cat > /dev/null; echo "refused 10 4 5 6"'
+try "a refusal with all its numbers" 1 "refused 10 4 5 6" "booth: refused 10: region 4 uses pattern 3, in which V5, toggle 6, is 2 and the one before it 1; .*" "$copy/booth" examples/base.bin
+stub booth 'cat > /dev/null; echo "refused 13 0"'
 stub ask 'kill -SEGV $$'
 try "figures that crash" 2 "refused 13 0" "booth: the program ask crashed: signal SEGV" "$copy/booth" examples/base.bin
 try "a question that crashes" 2 "" "booth: the program ask crashed: signal SEGV" "$copy/booth" check examples/base.bin

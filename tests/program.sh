@@ -63,8 +63,8 @@ asks() { { printf '%b' "$1"; cat "${2:-examples/base.bin}"; } | timeout 20 "$ask
 asks 'C\n'; check "ask C" "accepted"
 asks 'L 1 5\n'; check "ask L" "word 0FC1"
 asks 'N 15\n'; check "ask N" "line 1 pixel 5"
-asks 'F\n' examples/refused.bin; check "ask F" "124 120"
-asks 'F\n'; check "ask F of a script that is accepted" "0 0"
+asks 'F\n' examples/refused.bin; check "ask F" "124 120 0"
+asks 'F\n'; check "ask F of a script that is accepted" "0 0 0"
 asks 'C\n' /dev/null; check "ask C of no script" "refused 6 0"
 asks 'C' /dev/null; check "ask C without an end of line" "refused 6 0"
 for line in '' 'X' 'c' 'CC' 'C ' ' C' 'W 1' 'L' 'L 1' 'L 1 ' 'L 1 2 3' 'L  1 2' 'L 1  2' 'L 1 2 ' 'L 1x 2' 'L -1 2' 'L\t1 2' 'L1 2' 'N' 'N ' 'N 1 2' 'N 1\r' 'F 1' 'C\r'; do

@@ -193,8 +193,8 @@ impl<'a> Bytes<'a> {
 // ---------------------------------------------------------------------------
 // Answers as text
 
-/// The lines of case k. At a refusal every part but number and place is 0 or
-/// the empty profile.
+/// The lines of case k. At a refusal every part after the toggle is 0 or the
+/// empty profile.
 pub fn answer(k: usize, case: &Case) -> String {
     let mut out = format!("CASE {k} {}\n", case.kind());
     match case {
@@ -238,11 +238,11 @@ pub fn answer(k: usize, case: &Case) -> String {
     out
 }
 
-/// Number and place: 0 and 0 where accepted.
-fn head<T>(result: &Result<T, Refusal>) -> [u64; 2] {
+/// Number, place, output and toggle: all 0 where accepted.
+fn head<T>(result: &Result<T, Refusal>) -> [u64; 4] {
     match result {
-        Ok(_) => [0, 0],
-        Err(Refusal { number, place }) => [*number as u64, *place],
+        Ok(_) => [0; 4],
+        Err(r) => [r.number as u64, r.place, r.output as u64, r.toggle as u64],
     }
 }
 

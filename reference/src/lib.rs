@@ -1,7 +1,8 @@
 //! A second implementation of document 01 ("What will be built, and the
-//! rules"), written from the document alone. It is there to be compared with:
-//! clear before fast, and total: every entry point has an answer for any
-//! bytes, any numbers in a profile handed in, any line, pixel and position.
+//! rules", and the output and toggle that refusal 10 names), written from the
+//! papers alone. It is there to be compared with: clear before fast, and total:
+//! every entry point has an answer for any bytes, any numbers in a profile
+//! handed in, any line, pixel and position.
 //!
 //! - `profile`: the profile and its parts, and their raw order
 //! - `refusal`: the numbers of refusal

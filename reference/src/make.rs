@@ -5,6 +5,22 @@ use crate::script::{record, records};
 
 /// An output that uses no toggle under any rule.
 pub const UNUSED: [u16; 3] = [4095; 3];
+/// Toggles of an output out of order first at 2, under every rule of use over a
+/// pattern of length 4: after an unused one, equal, falling; 3 in order, out of
+/// order too, or unused.
+pub const BREAKS_AT_2: [[u16; 3]; 9] = [
+    [4095, 1, 3],
+    [4095, 1, 1],
+    [4095, 1, 4095],
+    [2, 2, 3],
+    [2, 2, 0],
+    [2, 2, 4095],
+    [3, 1, 2],
+    [3, 2, 1],
+    [3, 1, 4095],
+];
+/// Likewise first at 3, where toggles 1 and 2 are used, 2 is not, or none is.
+pub const BREAKS_AT_3: [[u16; 3]; 6] = [[1, 4095, 3], [1, 4095, 0], [4095, 4095, 0], [1, 2, 2], [1, 3, 2], [1, 3, 0]];
 /// Freeze and resume pairs of a pattern that no mask turns on.
 pub const NO_PAIRS: [u16; 4] = [0; 4];
 

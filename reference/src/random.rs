@@ -468,9 +468,11 @@ fn number_to_move(rng: &mut Rng, p: &Profile) -> usize {
 }
 
 /// Breaks a few rules of a profile that is accepted. The last goes first: each
-/// edit needs that the rules before its own still hold.
+/// edit needs that the rules before its own still hold. 10 is broken most often:
+/// it has an answer for each output and toggle.
 fn break_rules(rng: &mut Rng, p: &mut Profile, count: u64) {
-    let mut rules: Vec<u64> = (0..count).map(|_| rng.between(6, 17)).collect();
+    let rule = |rng: &mut Rng| if rng.percent(20) { 10 } else { rng.between(6, 17) };
+    let mut rules: Vec<u64> = (0..count).map(|_| rule(rng)).collect();
     rules.sort();
     for rule in rules.into_iter().rev() {
         break_rule(rng, p, rule);
@@ -505,13 +507,15 @@ fn break_order(rng: &mut Rng, p: &mut Profile, i: usize) {
     p.field.regions[i].first = rng.pick(&[before, before.saturating_sub(1), p.field.lines.min(4094), 4094]);
 }
 
-/// Three small numbers, in whatever order.
+/// Numbers around the edges of use, in whatever order, on one output or two.
 fn break_toggles(rng: &mut Rng, p: &mut Profile, pattern: usize) {
     let length = p.pattern(pattern as u16).length;
     let near = [0, 1, length.saturating_sub(1), length, length + 1, 4094, 4095].map(|t| t.min(4095) as u16);
-    let three = [rng.pick(&near), rng.pick(&near), rng.pick(&near)];
-    let output = rng.below(6) as usize;
-    set_toggles(p, pattern, output, three);
+    for _ in 0..rng.between(1, 2) {
+        let three = [0; 3].map(|_| rng.pick(&near));
+        let output = rng.below(6) as usize;
+        set_toggles(p, pattern, output, three);
+    }
 }
 
 fn break_mask(rng: &mut Rng, p: &mut Profile, i: usize) {
@@ -540,7 +544,7 @@ fn break_run(rng: &mut Rng, p: &mut Profile, i: usize) {
 }
 
 fn break_gate_line(rng: &mut Rng, p: &mut Profile) {
-    match rng.below(5) {
+    match rng.below(6) {
         0 => p.field.gate = p.field.lines.min(4094),
         1 => p.field.second = rng.below(10) as u16,
         2 => p.field.gate = rng.below(p.field.lines as u64) as u16,
@@ -551,6 +555,7 @@ fn break_gate_line(rng: &mut Rng, p: &mut Profile) {
             p.field.second = second;
             set_length(p, second as usize, length as u16);
         }
+        4 if p.field.second != NO_SECOND => break_toggles(rng, p, p.field.second as usize),
         // Only the mode of the gate line's region is wrong for a second pattern.
         _ => {
             let line = p.field.gate as u64;

@@ -1,10 +1,14 @@
 //! Numbers of refusal. 0 (accepted) is `Ok`; everything else is a `Refusal`.
 
 /// A number of 01's table "Numbers of refusal" and the place returned with it.
+/// At 10 also the lowest output, 1 to 6, that has a used toggle out of order,
+/// and its lowest such toggle, 2 or 3; else both are 0.
 #[derive(Clone, Copy, PartialEq, Eq, Debug)]
 pub struct Refusal {
     pub number: u8,
     pub place: u64,
+    pub output: usize,
+    pub toggle: usize,
 }
 
 pub const SCRIPT_TOO_LONG: u8 = 1;
@@ -37,6 +41,7 @@ pub fn demand(holds: bool, number: u8, place: usize) -> Result<(), Refusal> {
     }
 }
 
+/// A refusal that names no output and no toggle.
 pub fn refusal(number: u8, place: usize) -> Refusal {
-    Refusal { number, place: place as u64 }
+    Refusal { number, place: place as u64, output: 0, toggle: 0 }
 }

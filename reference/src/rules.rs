@@ -52,7 +52,7 @@ fn check_region(profile: &Profile, region: usize) -> Result<(), Refusal> {
     demand(sequence.present, SEQUENCE_NOT_GIVEN, region)?;
     let pattern = profile.pattern(sequence.pattern);
     demand(pattern.length != 0, PATTERN_LENGTH_ZERO, region)?;
-    demand(toggles_in_order(&pattern, use_in_mode(mode)), TOGGLE_ORDER, region)?;
+    check_toggles(&pattern, use_in_mode(mode), region)?;
     demand(mask_allowed(mode, sequence, &pattern), MASK, region)?;
     demand(counts_allowed(mode, sequence, &pattern), REPETITION_COUNTS, region)?;
     demand(run_fits(mode, sequence, &pattern, region_size(profile, region)), RUN_PASSES_REGION, region)
@@ -82,11 +82,30 @@ pub fn is_used(toggle: u64, length: u64, rule: Use) -> bool {
     }
 }
 
-/// 10: "For each output, used toggles come first and rise strictly."
-fn toggles_in_order(pattern: &Pattern, rule: Use) -> bool {
-    let used = |toggle: u64| is_used(toggle, pattern.length, rule);
+/// 10, with the output and the toggle that break it.
+fn check_toggles(pattern: &Pattern, rule: Use, region: usize) -> Result<(), Refusal> {
+    match out_of_order(pattern, rule) {
+        None => Ok(()),
+        Some((output, toggle)) => Err(Refusal { output, toggle, ..refusal(TOGGLE_ORDER, region) }),
+    }
+}
+
+/// The lowest output of a pattern that has a used toggle out of order, and its
+/// lowest such toggle.
+fn out_of_order(pattern: &Pattern, rule: Use) -> Option<(usize, usize)> {
+    (1..=OUTPUTS).find_map(|output| {
+        let toggle = toggle_out_of_order(pattern.toggles[output - 1], pattern.length, rule)?;
+        Some((output, toggle))
+    })
+}
+
+/// 10: "For each output, used toggles come first and rise strictly." The first
+/// used toggle of one output, 2 or 3, that comes after an unused one or is not
+/// above the one before.
+fn toggle_out_of_order(toggles: [u64; 3], length: u64, rule: Use) -> Option<usize> {
+    let used = |toggle: u64| is_used(toggle, length, rule);
     let follows = |before: u64, toggle: u64| !used(toggle) || (used(before) && before < toggle);
-    pattern.toggles.iter().all(|t| follows(t[0], t[1]) && follows(t[1], t[2]))
+    (2..=3).find(|j| !follows(toggles[j - 2], toggles[j - 1]))
 }
 
 /// 11: "Each pair turned on has freeze below resume; with both, resume 1 is at
@@ -203,7 +222,7 @@ fn second_allowed(profile: &Profile, second: &Pattern) -> bool {
     let r = repetitions(sequence, line);
     profile.field.regions[region].mode == Mode::Plain
         && second.length != 0
-        && toggles_in_order(second, Use::Not4095)
+        && out_of_order(second, Use::Not4095).is_none()
         && second.length < line_length(profile, line)
         && (r == 0 || sequence.start as u64 + r * first.length <= second.length)
 }

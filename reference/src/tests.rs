@@ -4,15 +4,20 @@ use crate::case::{answer, decode_batch, Case};
 use crate::list::{compile, play, Compiled};
 use crate::make::*;
 use crate::profile::*;
-use crate::refusal::Refusal;
+use crate::refusal::{refusal, Refusal};
 use crate::rules::check;
 use crate::script::{read, records, write};
 use crate::word::{level, locate};
 use crate::{random, stored};
 use std::collections::BTreeSet;
 
-fn refused<T>(number: u8, place: u64) -> Result<T, Refusal> {
-    Err(Refusal { number, place })
+fn refused<T>(number: u8, place: usize) -> Result<T, Refusal> {
+    Err(refusal(number, place))
+}
+
+/// 10, with the output and the toggle it names.
+fn out_of_order<T>(place: usize, output: usize, toggle: usize) -> Result<T, Refusal> {
+    Err(Refusal { output, toggle, ..refusal(10, place) })
 }
 
 /// The bits of one output over a line's pixels.
@@ -34,6 +39,13 @@ fn w1_base_profile() {
     assert_eq!(read(&script_a()), Ok(profile_a()));
     let seven = [(3, 0x0FC1), (2, 0x0FC0), (8, 0x0FC1), (2, 0x0FC0), (2, 0x0FC1), (2, 0x0FC0), (1, 0x0FC1)];
     assert_eq!(steps(&profile_a(), 9), seven);
+}
+
+#[test]
+fn w2_zero_is_a_used_toggle() {
+    let p = with(&profile_a(), |p| p.registers[4..20].fill(0));
+    assert_eq!(check(&p), out_of_order(0, 1, 3));
+    assert_eq!(read(&[&script_a()[..16], &SEQUENCE_A, &FIELD_A].concat()), out_of_order(0, 1, 3));
 }
 
 #[test]
@@ -110,6 +122,36 @@ fn all_rules_on_three_lines() {
     assert_eq!(steps(&p, 12), twelve);
 }
 
+/// On each output, with a higher one out of order too; the second pattern breaks
+/// 14 and names none.
+#[test]
+fn rule_10_names_the_lowest_output_and_its_first_toggle() {
+    let named = |mode: Mode, output: usize, three: [u16; 3]| {
+        check(&with(&profile_seven(mode), |p| {
+            set_toggles(p, 3, 5, [3, 2, 4095]);
+            set_toggles(p, 3, output, three);
+        }))
+    };
+    let second = |output: usize, three: [u16; 3]| check(&with(&profile_rich(), |p| set_toggles(p, 7, output, three)));
+    for output in 0..OUTPUTS {
+        for (toggle, threes) in [(2, &BREAKS_AT_2[..]), (3, &BREAKS_AT_3[..])] {
+            for three in threes {
+                for mode in [Mode::Plain, Mode::Sweep, Mode::Multiplier] {
+                    assert_eq!(named(mode, output, *three), out_of_order(3, output + 1, toggle));
+                }
+                assert_eq!(second(output, *three), refused(14, 0));
+            }
+        }
+        // A length of 4: 4 and above are used in multiplier alone.
+        for (three, toggle) in [([4, 4, 3], 2), ([9, 5, 2], 2), ([1, 9, 5], 3)] {
+            assert_eq!(named(Mode::Multiplier, output, three), out_of_order(3, output + 1, toggle));
+        }
+        for three in [[4, 4, 3], [9, 5, 2], [4, 9, 0]] {
+            assert_eq!(named(Mode::Plain, output, three), out_of_order(3, output + 1, 3));
+        }
+    }
+}
+
 #[test]
 fn playing_takes_counts_off_the_position() {
     let (counts, words) = ([2, 0, u32::MAX, 1], [7, 8, 9, 10]);
@@ -130,7 +172,7 @@ fn written_scripts_are_998_to_1312_bytes_and_read_back() {
     });
     for (p, length) in [(profile_a(), 998), (most, 1312)] {
         let mut slice = lent_slice(length);
-        assert_eq!(write(&p, &mut slice[..length - 1]), refused(18, length as u64));
+        assert_eq!(write(&p, &mut slice[..length - 1]), refused(18, length));
         assert_eq!(slice, lent_slice(length));
         assert_eq!(write(&p, &mut slice), Ok(length));
         assert_eq!(read(&slice), Ok(p));
@@ -148,40 +190,73 @@ fn a_batch_reads_back() {
     }
 }
 
-/// Kind, number and place of each answer. Where the place is an offset or a
-/// need, it is left out.
-fn answers_of(cases: &[Case]) -> BTreeSet<(char, u64, u64)> {
+/// What the first line of an answer says.
+#[derive(PartialEq, Eq, PartialOrd, Ord)]
+struct Head {
+    kind: char,
+    number: u64,
+    /// 0 where it is an offset or a need
+    place: u64,
+    output: u64,
+    toggle: u64,
+}
+
+/// The heads of all answers. 10 names an output and a toggle; nothing else does.
+fn heads_of(cases: &[Case]) -> BTreeSet<Head> {
     let mut seen = BTreeSet::new();
     for (k, case) in cases.iter().enumerate() {
         let text = answer(k, case);
         let head: Vec<u64> = text.lines().nth(1).unwrap().split(' ').map(|n| n.parse().unwrap()).collect();
-        let offset_or_need = matches!(head[0], 2..=5 | 18);
-        seen.insert((case.kind(), head[0], if offset_or_need { 0 } else { head[1] }));
+        let (number, output, toggle) = (head[0], head[2], head[3]);
+        let place = if matches!(number, 2..=5 | 18) { 0 } else { head[1] };
+        if number == 10 {
+            assert!((1..=6).contains(&output) && (2..=3).contains(&toggle), "{text}");
+        } else {
+            assert_eq!((output, toggle), (0, 0), "{text}");
+        }
+        seen.insert(Head { kind: case.kind(), number, place, output, toggle });
     }
     seen
 }
 
+/// Whether 10 names toggles 2 and 3 of each output.
+fn all_named<'a>(heads: impl Iterator<Item = &'a Head>) -> bool {
+    let named: BTreeSet<(u64, u64)> = heads.filter(|h| h.number == 10).map(|h| (h.output, h.toggle)).collect();
+    named.len() == 2 * OUTPUTS
+}
+
 /// Every number of refusal that an entry point can answer, at each region, gate
-/// and shutter.
+/// and shutter; at 10 each output and toggle.
 #[test]
 fn the_stored_batch_covers_every_refusal() {
-    let seen = answers_of(&stored::cases());
+    let seen = heads_of(&stored::cases());
     let of_rules = [0, 5, 6, 7, 8, 9, 10, 11, 12, 13, 14, 15, 16, 17];
-    let has = |kind, number| seen.iter().any(|(k, n, _)| *k == kind && *n == number);
+    let has = |kind, number| seen.iter().any(|h| (h.kind, h.number) == (kind, number));
     for (kind, more) in [('R', vec![1, 2, 3, 4]), ('C', vec![]), ('W', vec![18]), ('L', vec![19]), ('N', vec![19]), ('K', vec![18])] {
         for number in of_rules.into_iter().chain(more) {
             assert!(has(kind, number), "{kind} never answers {number}");
         }
+        assert!(all_named(seen.iter().filter(|h| h.kind == kind)), "{kind} never names some output or toggle");
     }
     for number in [0, 19, 20] {
         assert!(has('P', number), "P never answers {number}");
     }
+    let has_at = |kind, number, place| seen.iter().any(|h| (h.kind, h.number, h.place) == (kind, number, place));
     for kind in ['R', 'C'] {
         let places = (7..=13).flat_map(|n| (0..7).map(move |place| (n, place)));
         let others = (0..5).map(|gate| (15, gate)).chain((0..2).map(|which| (17, which)));
         for (number, place) in places.chain(others) {
-            assert!(seen.contains(&(kind, number, place)), "{kind} never answers {number} at {place}");
+            assert!(has_at(kind, number, place), "{kind} never answers {number} at {place}");
         }
+    }
+}
+
+/// As many cases as are compared; those that compile take long and are left out.
+#[test]
+fn a_random_batch_names_every_output_and_toggle() {
+    for seed in 1..=3 {
+        let cases: Vec<Case> = random::cases(seed, 6000).into_iter().filter(|c| c.kind() != 'K').collect();
+        assert!(all_named(heads_of(&cases).iter()));
     }
 }
 

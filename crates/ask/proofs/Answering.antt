@@ -18,16 +18,15 @@ use Rattle.profile.specs.declared.Written.{Written}
 use Rattle.profile.proofs.Sizes.{script-high}
 use Rattle.level.specs.declared.LevelAnswer.{LevelAnswer}
 use Rattle.level.specs.declared.Located.{Located}
-use Rattle.holdlist.specs.Text.{valueOf}
+use Rattle.holdlist.specs.Text.{valueOf, refusedLine}
 use Rattle.holdlist.proofs.Puts.{puts-none, puts-whole}
-use Rattle.holdlist.proofs.Spelling.{decimal-length, refused-length}
+use Rattle.holdlist.proofs.Spelling.{Wide, decimal-length, refused-length}
 use Rattle.ask.specs.declared.figures.Figures.{Figures}
 use Rattle.ask.specs.Question.{endOf, mostLine, lineOf, scriptOf, letterOf, numbersOf, firstOf, secondOf, alone, withOne, withTwo}
 use Rattle.ask.specs.Answer.{
   wordLine,
   placeLine,
   figuresLine,
-  verdictLine,
   levelText,
   locateText,
   writeText,
@@ -54,13 +53,16 @@ unfolding placeLine
 place-length line pixel h g =
     simp length-append (omega (arith, decimal-length line 19 (omega arith), decimal-length pixel 19 (omega arith)))
 
-pub figures-length : (f : Figures) → f .first < 2 ^ 64 → f .second < 2 ^ 64 → length (figuresLine f) ≤ longestScript
+pub figures-length :
+    (f : Figures) → f .first < 2 ^ 64 → f .second < 2 ^ 64 → f .third < 2 ^ 64 → length (figuresLine f) ≤ longestScript
 unfolding figuresLine
-figures-length f h g =
-    simp length-append (omega (arith, decimal-length (f .first) 19 (omega arith), decimal-length (f .second) 19 (omega arith)))
+figures-length f h g k =
+    let a = decimal-length (f .first) 19 (omega arith) in
+    let b = decimal-length (f .second) 19 (omega arith) in
+    simp length-append (omega (arith, a, b, decimal-length (f .third) 19 (omega arith)))
 
-pub verdict-length : (v : Verdict) → v .number < 2 ^ 16 → v .place < 2 ^ 64 → length (verdictLine v) ≤ longestScript
-verdict-length v h g = omega (arith, refused-length (v .number) (v .place) h g)
+pub verdict-length : (v : Verdict) → Wide v → length (refusedLine v) ≤ longestScript
+verdict-length v w = omega (arith, refused-length v w)
 
 pub short-none : {l : List ℕ} → PutsShort [] l 0 l
 short-none {l} = record { puts = puts-none l 0; short = omega arith }
@@ -71,7 +73,7 @@ short-as p e = rw (← e) p
 -- ---- by a verdict
 
 module _ (a : LevelAnswer) where
-  pub level-refused : (a .verdict .number ≡ 0 → ⊥) → verdictLine (a .verdict) ≡ levelText a
+  pub level-refused : (a .verdict .number ≡ 0 → ⊥) → refusedLine (a .verdict) ≡ levelText a
   unfolding levelText
   level-refused h = rw (ne-eqb (a .verdict .number) 0 h)
 
@@ -80,7 +82,7 @@ module _ (a : LevelAnswer) where
   level-word h = rw (eq-eqb (a .verdict .number) 0 h)
 
 module _ (a : Located) where
-  pub locate-refused : (a .verdict .number ≡ 0 → ⊥) → verdictLine (a .verdict) ≡ locateText a
+  pub locate-refused : (a .verdict .number ≡ 0 → ⊥) → refusedLine (a .verdict) ≡ locateText a
   unfolding locateText
   locate-refused h = rw (ne-eqb (a .verdict .number) 0 h)
 
@@ -94,7 +96,7 @@ module _ (p : Profile) (room : List ℕ) (r : Written) (e : r ≡ writeAnswer p 
   unfolding writeAnswer
   told = ap (λ (w : Written). w .verdict) e ∙ rw (← z)
 
-  pub write-refused : (r .verdict .number ≡ 0 → ⊥) → verdictLine (r .verdict) ≡ writeText p
+  pub write-refused : (r .verdict .number ≡ 0 → ⊥) → refusedLine (r .verdict) ≡ writeText p
   unfolding writeText
   write-refused h = rw (← told, ne-eqb (r .verdict .number) 0 h)
 
@@ -120,7 +122,7 @@ module _ (p : Profile) (room : List ℕ) (r : Written) (e : r ≡ writeAnswer p 
 
 -- of a script
 module _ (text : Profile → List ℕ) (s : List ℕ) (a : ReadAnswer) (e : a ≡ readScript s) where
-  pub of-refused : (a .verdict .number ≡ 0 → ⊥) → verdictLine (a .verdict) ≡ ofProfile text s
+  pub of-refused : (a .verdict .number ≡ 0 → ⊥) → refusedLine (a .verdict) ≡ ofProfile text s
   unfolding ofProfile
   of-refused h = rw (← e, ne-eqb (a .verdict .number) 0 h)
 

@@ -10,7 +10,7 @@ use lib.ListN.{length, take, length-drop}
 use lib.Seq.{take-all, take-take, length-take-le}
 use borrow.Author.Tests.{le-leb, lt-leb, leb-true, leb-false, eq-eqb}
 use Rattle.profile.specs.Bytes.{Bytes}
-use Rattle.profile.specs.Values.{accepted}
+use Rattle.profile.specs.Values.{accepted, refused}
 use Rattle.profile.specs.Rules.{checkProfile}
 use Rattle.profile.specs.Script.{mostBytes, readScript}
 use Rattle.profile.specs.Records.{unread}
@@ -23,7 +23,7 @@ use Rattle.profile.proofs.RoundTrip.{round-trip}
 use Rattle.profile.proofs.Sizes.{script-high}
 use Rattle.level.specs.Place.{levelAnswer, locateAnswer}
 use Rattle.holdlist.specs.Text.{valueOf, refusedLine}
-use Rattle.ask.specs.Figures.{figures, figuresBy, figuresOf}
+use Rattle.ask.specs.Figures.{noFigures, figuresBy, figuresOf}
 use Rattle.ask.specs.Question.{endOf, mostLine, lineOf, scriptOf, numbersOf, firstOf, secondOf}
 use Rattle.ask.specs.Answer.{
   acceptedLine,
@@ -42,15 +42,15 @@ use Rattle.ask.proofs.Answering.{asked-none, asked-answer}
 -- ---- scripts that are too long are answered alike
 
 module _ (s : List ℕ) (h : mostBytes < length s) where
-  too-long : readScript s ≡ unread 1 0
+  too-long : readScript s ≡ unread (refused 1 0)
   unfolding readScript
   too-long = rw (lt-leb (length s) mostBytes h)
 
-  of-long : (text : Profile → List ℕ) → ofProfile text s ≡ refusedLine 1 0
+  of-long : (text : Profile → List ℕ) → ofProfile text s ≡ refusedLine (refused 1 0)
   unfolding ofProfile
   of-long text = rw too-long
 
-  figures-long : figuresAsked s ≡ figuresLine (figures 0 0)
+  figures-long : figuresAsked s ≡ figuresLine noFigures
   unfolding figuresOf figuresBy
   figures-long = rw too-long
 

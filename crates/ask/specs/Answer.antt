@@ -9,7 +9,6 @@ use Rattle.profile.specs.Values.{accepts}
 use Rattle.profile.specs.Script.{readScript}
 use Rattle.profile.specs.Writing.{longestScript, writeScript, writeVerdict}
 use Rattle.profile.specs.declared.Profile.{Profile}
-use Rattle.profile.specs.declared.Verdict.{Verdict}
 use Rattle.level.specs.Place.{levelAnswer, locateAnswer}
 use Rattle.level.specs.declared.LevelAnswer.{LevelAnswer}
 use Rattle.level.specs.declared.Located.{Located}
@@ -41,26 +40,23 @@ unfoldable pub placeLine : ℕ → ℕ → List ℕ
 placeLine line pixel = lineWord ++ decimal line ++ pixelWord ++ decimal pixel ++ (10 ∷ [])
 
 unfoldable pub figuresLine : Figures → List ℕ
-figuresLine f = decimal (f .first) ++ (32 ∷ []) ++ decimal (f .second) ++ (10 ∷ [])
-
-abbrev pub verdictLine : Verdict → List ℕ
-verdictLine v = refusedLine (v .number) (v .place)
+figuresLine f = decimal (f .first) ++ (32 ∷ []) ++ decimal (f .second) ++ (32 ∷ []) ++ decimal (f .third) ++ (10 ∷ [])
 
 -- ---- answers
 
 unfoldable pub levelText : LevelAnswer → List ℕ
-levelText a = cond (accepts (a .verdict)) (wordLine (a .word)) (verdictLine (a .verdict))
+levelText a = cond (accepts (a .verdict)) (wordLine (a .word)) (refusedLine (a .verdict))
 
 unfoldable pub locateText : Located → List ℕ
-locateText a = cond (accepts (a .verdict)) (placeLine (a .line) (a .pixel)) (verdictLine (a .verdict))
+locateText a = cond (accepts (a .verdict)) (placeLine (a .line) (a .pixel)) (refusedLine (a .verdict))
 
 -- the script as the writer writes it, into room for the longest
 unfoldable pub writeText : Profile → List ℕ
-writeText p = cond (accepts (writeVerdict p longestScript)) (writeScript p) (verdictLine (writeVerdict p longestScript))
+writeText p = cond (accepts (writeVerdict p longestScript)) (writeScript p) (refusedLine (writeVerdict p longestScript))
 
 -- of a script: its refusal, or what its profile gives
 unfoldable pub ofProfile : (Profile → List ℕ) → List ℕ → List ℕ
-ofProfile text s = cond (accepts (readScript s .verdict)) (text (readScript s .profile)) (verdictLine (readScript s .verdict))
+ofProfile text s = cond (accepts (readScript s .verdict)) (text (readScript s .profile)) (refusedLine (readScript s .verdict))
 
 abbrev pub checkAsked : List ℕ → List ℕ
 checkAsked s = ofProfile (λ p. acceptedLine) s

@@ -24,9 +24,9 @@ ghost use mathlib.Core.Bool.{cond};
 ghost use mathlib.Core.List.{[]};
 ghost use Prim.Native.Nat.{_≤_};
 ghost use lib.ListN.{length, take};
-ghost use Rattle.holdlist.specs.Text.{valueOf};
+ghost use Rattle.holdlist.specs.Text.{valueOf, refusedLine};
 ghost use Rattle.ask.specs.Question.{numbersOf, firstOf, secondOf, alone as aloneLine, withOne, withTwo};
-ghost use Rattle.ask.specs.Answer.{acceptedLine, wordLine, placeLine, figuresLine, verdictLine, levelText, locateText, writeText, checkAsked, writeAsked, levelAsked, locateAsked, figuresAsked, answerOf, asked};
+ghost use Rattle.ask.specs.Answer.{acceptedLine, wordLine, placeLine, figuresLine, levelText, locateText, writeText, checkAsked, writeAsked, levelAsked, locateAsked, figuresAsked, answerOf, asked};
 ghost use Rattle.ask.specs.Short.{PutsShort};
 
 // ---- lines
@@ -38,9 +38,9 @@ fn put_accepted_line(out: &mut [u8]) -> usize
 }
 
 fn put_verdict_line(out: &mut [u8], verdict: Verdict) -> usize
-    ensures { λ r. ⌜ PutsShort (verdictLine verdict) (now (out .entry)) r (now (out .exit)) ⌝ }
+    ensures { λ r. ⌜ PutsShort (refusedLine verdict) (now (out .entry)) r (now (out .exit)) ⌝ }
 {
-    put_refused_line(out, 0, verdict.number, verdict.place)
+    put_refused_line(out, 0, verdict)
 }
 
 fn put_word_line(out: &mut [u8], word: u16) -> usize
@@ -67,7 +67,9 @@ fn put_figures_line(out: &mut [u8], figures: Figures) -> usize
     let a = put_decimal(out, 0, figures.first);
     let b = put_byte(out, a, 32);
     let c = put_decimal(out, b, figures.second);
-    put_byte(out, c, 10)
+    let d = put_byte(out, c, 32);
+    let e = put_decimal(out, d, figures.third);
+    put_byte(out, e, 10)
 }
 
 // ---- what the entry points answer

@@ -1,6 +1,7 @@
-// The figures of a refusal: the two numbers that its sentence tells besides its place.
+// The figures of a refusal: the three numbers that its sentence tells besides those that are printed.
 use crate::question::byte_at;
 use profile::Field;
+use profile::Pattern;
 use profile::Profile;
 use profile::Tables;
 use profile::Verdict;
@@ -15,21 +16,26 @@ use profile::sequence_at;
 use profile::shutter_of;
 ghost use mathlib.Core.Path.{_≡_};
 ghost use mathlib.Core.Bool.{cond};
-ghost use Prim.Native.Nat.{_+_, _*_, _<_, min};
+ghost use Prim.Native.Nat.{_+_, _-_, _*_, _<_, min};
 ghost use lib.Dec.{ltb};
 ghost use lib.ListN.{length};
 ghost use Rattle.profile.specs.Bytes.{numberAt};
-ghost use Rattle.ask.specs.Figures.{figures, recordFigures, runFigures, regionFigures, fieldFigures, profileFigures, figuresBy, figuresOf};
+ghost use Rattle.ask.specs.Figures.{figures, recordFigures, runFigures, toggleOf, toggleFigures, regionFigures, fieldFigures, profileFigures, figuresBy, figuresOf};
 
 pub struct Figures {
     pub first: u64,
     pub second: u64,
+    pub third: u64,
 }
 
 fn two(first: u64, second: u64) -> Figures
-    ensures { λ r. ⌜ r ≡ figures first second ⌝ }
+    ensures { λ r. ⌜ r ≡ figures first second 0 ⌝ }
 {
-    Figures { first, second }
+    Figures {
+        first,
+        second,
+        third: 0,
+    }
 }
 
 // ---- of the record at a place
@@ -99,7 +105,45 @@ fn run_figures(tables: Tables, field: Field, i: usize) -> Figures
     two(run_end(sequence.start, sequence.odd, pattern.length), size)
 }
 
-// 7 to 13, at region i.
+// A number less 1; 0 for 0.
+fn less_one(x: u16) -> u16
+    ensures { λ r. ⌜ r ≡ x - 1 ⌝ }
+{
+    if x == 0 { 0 } else { x - 1 }
+}
+
+// Toggle j of output k, both counted from 1, where 0 counts as 1; 0 where there is none.
+fn toggle_of(pattern: Pattern, k: u16, j: u16) -> u16
+    ensures { λ r. ⌜ r ≡ toggleOf pattern k j ⌝ }
+{
+    let output = less_one(k) as usize;
+    let toggle = less_one(j) as usize;
+    if 3 <= toggle {
+        return 0;
+    }
+    if 6 <= output {
+        return 0;
+    }
+    let t = pattern.toggles;
+    t[3 * output + toggle]
+}
+
+// 10.
+fn toggle_figures(tables: Tables, field: Field, verdict: Verdict) -> Figures
+    ensures { λ r. ⌜ r ≡ toggleFigures tables field verdict ⌝ }
+{
+    let sequence = sequence_at(tables, field, verdict.place as usize);
+    let registers = tables.registers;
+    let pattern = pattern_of(registers, sequence.pattern);
+    let before = less_one(verdict.toggle);
+    Figures {
+        first: toggle_of(pattern, verdict.output, before) as u64,
+        second: toggle_of(pattern, verdict.output, verdict.toggle) as u64,
+        third: sequence.pattern as u64,
+    }
+}
+
+// 7 to 13 but 10, at region i.
 fn region_figures(tables: Tables, field: Field, number: u16, i: usize) -> Figures
     ensures { λ r. ⌜ r ≡ regionFigures tables field number i ⌝ }
 {
@@ -142,15 +186,18 @@ fn field_figures(tables: Tables, field: Field, number: u16, i: usize) -> Figures
 // ---- of a script
 
 // 7 to 17, of a profile.
-fn profile_figures(profile: Profile, number: u16, i: usize) -> Figures
-    ensures { λ r. ⌜ r ≡ profileFigures profile number i ⌝ }
+fn profile_figures(profile: Profile, verdict: Verdict) -> Figures
+    ensures { λ r. ⌜ r ≡ profileFigures profile verdict ⌝ }
 {
     let tables = profile.tables;
     let field = profile.field;
-    if number <= 13 {
-        return region_figures(tables, field, number, i);
+    if verdict.number == 10 {
+        return toggle_figures(tables, field, verdict);
     }
-    field_figures(tables, field, number, i)
+    if verdict.number <= 13 {
+        return region_figures(tables, field, verdict.number, verdict.place as usize);
+    }
+    field_figures(tables, field, verdict.number, verdict.place as usize)
 }
 
 // Of a script and its verdict.
@@ -169,7 +216,7 @@ fn figures_by(script: &[u8], verdict: Verdict) -> Figures
     }
     let answer = read_records(script);
     let profile = answer.profile;
-    profile_figures(profile, verdict.number, verdict.place as usize)
+    profile_figures(profile, verdict)
 }
 
 // The figures of what reading a script answers.

@@ -45,7 +45,7 @@ fn put_answer(script: &[u8], out: &mut [u8]) -> usize
     let answer = profile::read(script);
     let verdict = answer.verdict;
     if verdict.number != 0 {
-        return holdlist::put_refused_line(out, 0, verdict.number, verdict.place);
+        return holdlist::put_refused_line(out, 0, verdict);
     }
     let profile = answer.profile;
     let mut counts = count_room();

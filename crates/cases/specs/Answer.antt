@@ -95,7 +95,7 @@ profileLine p = tablesText (p .tables) ++ fieldText (p .field) ++ (10 ∷ [])
 -- ---- first lines
 
 abbrev pub headText : Verdict → List ℕ
-headText v = decimal (v .number) ++ after (v .place)
+headText v = decimal (v .number) ++ after (v .place) ++ after (v .output) ++ after (v .toggle)
 
 -- "CASE k KIND"
 abbrev pub caseLine : ℕ → ℕ → List ℕ

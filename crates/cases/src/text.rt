@@ -220,12 +220,14 @@ pub(crate) fn put_profile(out: &mut [u8], at: usize, profile: Profile) -> usize
 
 // ---- the first lines
 
-// Number and place of a verdict.
+// Number, place, output and toggle of a verdict.
 pub(crate) fn put_verdict(out: &mut [u8], at: usize, verdict: Verdict) -> usize
     ensures { λ r. ⌜ Puts (headText verdict) (now (out .entry)) at r (now (out .exit)) ⌝ }
 {
     let a = put_decimal(out, at, verdict.number as u64);
-    put_after(out, a, verdict.place)
+    let b = put_after(out, a, verdict.place);
+    let c = put_after(out, b, verdict.output as u64);
+    put_after(out, c, verdict.toggle as u64)
 }
 
 // "CASE k KIND"

@@ -34,23 +34,23 @@ use Rattle.holdlist.specs.Text.{printed}
 -- ---- what can be asked of a script
 
 pub data Question : Type 0 where
-  -- number and place of the read
+  -- number, place, output and toggle of the read
   read : Question
   -- the words of all the field's pixels
   words : Question
   -- the levels of output bit k at all the field's pixels
   output : ℕ → Question
-  -- the level asked at a line and pixel: number, place, word
+  -- the level asked at a line and pixel: verdict, word
   level : ℕ → ℕ → Question
-  -- compiled into lent lists: number, place, steps, pixels; counts and words as they are left
+  -- compiled into lent lists: verdict, steps, pixels; counts and words as they are left
   compile : List ℕ → List ℕ → Question
   -- the text that is printed
   print : Question
-  -- written into a lent slice of so many bytes: number, place, length
+  -- written into a lent slice of so many bytes: verdict, length
   write : ℕ → Question
 
 abbrev verdict : Verdict → List ℕ
-verdict v = v .number ∷ v .place ∷ []
+verdict v = v .number ∷ v .place ∷ v .output ∷ v .toggle ∷ []
 
 abbrev profileOf : List ℕ → Profile
 profileOf s = readScript s .profile
@@ -167,35 +167,35 @@ table =
     case a print
     (w1 ∷ [])
     ∷ case a (compile (replicate 8 9) (replicate 8 9))
-    ((0 ∷ 0 ∷ 7 ∷ 20 ∷ [])
+    ((0 ∷ 0 ∷ 0 ∷ 0 ∷ 7 ∷ 20 ∷ [])
     ∷ (3 ∷ 2 ∷ 8 ∷ 2 ∷ 2 ∷ 2 ∷ 1 ∷ 9 ∷ [])
     ∷ (0x0FC1 ∷ 0x0FC0 ∷ 0x0FC1 ∷ 0x0FC0 ∷ 0x0FC1 ∷ 0x0FC0 ∷ 0x0FC1 ∷ 9 ∷ []) ∷ [])
     ∷ case a words
     ((replicate 3 0x0FC1 ++ replicate 2 0x0FC0 ++ replicate 8 0x0FC1 ++ replicate 2 0x0FC0 ++ replicate 2 0x0FC1 ++ replicate 2 0x0FC0 ++ replicate 1 0x0FC1) ∷ [])
     -- W2, W3, W4
-    ∷ case (pattern 0x004001 0x003001 ++ sequence 2 1 2 0 ++ field 2 0) read ((10 ∷ 0 ∷ []) ∷ [])
-    ∷ case [] read ((6 ∷ 0 ∷ []) ∷ [])
-    ∷ case (0x04 ∷ 0x00 ∷ 0x01 ∷ []) read ((2 ∷ 0 ∷ []) ∷ [])
+    ∷ case (pattern 0x004001 0x003001 ++ sequence 2 1 2 0 ++ field 2 0) read ((10 ∷ 0 ∷ 1 ∷ 3 ∷ []) ∷ [])
+    ∷ case [] read ((6 ∷ 0 ∷ 0 ∷ 0 ∷ []) ∷ [])
+    ∷ case (0x04 ∷ 0x00 ∷ 0x01 ∷ []) read ((2 ∷ 0 ∷ 0 ∷ 0 ∷ []) ∷ [])
     -- W5: line 0 is 1110001111
     ∷ case (masked 3 6) (output 0)
     ((1 ∷ 1 ∷ 1 ∷ 0 ∷ 0 ∷ 0 ∷ 1 ∷ 1 ∷ 1 ∷ 1 ∷ 1 ∷ 1 ∷ 1 ∷ 0 ∷ 0 ∷ 0 ∷ 1 ∷ 0 ∷ 0 ∷ 1 ∷ []) ∷ [])
     -- W6
-    ∷ case (masked 3 3) read ((11 ∷ 0 ∷ []) ∷ [])
+    ∷ case (masked 3 3) read ((11 ∷ 0 ∷ 0 ∷ 0 ∷ []) ∷ [])
     -- W7, W8
-    ∷ case (sweep 7) read ((0 ∷ 0 ∷ []) ∷ [])
-    ∷ case (sweep 8) read ((13 ∷ 0 ∷ []) ∷ [])
+    ∷ case (sweep 7) read ((0 ∷ 0 ∷ 0 ∷ 0 ∷ []) ∷ [])
+    ∷ case (sweep 8) read ((13 ∷ 0 ∷ 0 ∷ 0 ∷ []) ∷ [])
     -- W9: high at field pixels 9 to 20
     ∷ case (multiplier 5) (output 0) ((replicate 9 0 ++ replicate 12 1 ++ replicate 9 0) ∷ [])
     -- W10
-    ∷ case (multiplier 4) read ((12 ∷ 0 ∷ []) ∷ [])
+    ∷ case (multiplier 4) read ((12 ∷ 0 ∷ 0 ∷ 0 ∷ []) ∷ [])
     -- W11
-    ∷ case a (compile (replicate 6 9) (replicate 8 9)) ((18 ∷ 7 ∷ 0 ∷ 0 ∷ []) ∷ replicate 6 9 ∷ replicate 8 9 ∷ [])
+    ∷ case a (compile (replicate 6 9) (replicate 8 9)) ((18 ∷ 7 ∷ 0 ∷ 0 ∷ 0 ∷ 0 ∷ []) ∷ replicate 6 9 ∷ replicate 8 9 ∷ [])
     -- W12
-    ∷ case a (level 1 10) ((19 ∷ 0 ∷ 0 ∷ []) ∷ [])
+    ∷ case a (level 1 10) ((19 ∷ 0 ∷ 0 ∷ 0 ∷ 0 ∷ []) ∷ [])
     -- "at most 1,312 bytes, at least 998": both are reached
-    ∷ case a (write 998) ((0 ∷ 0 ∷ 998 ∷ []) ∷ [])
-    ∷ case full (write 1312) ((0 ∷ 0 ∷ 1312 ∷ []) ∷ [])
-    ∷ case full (write 1311) ((18 ∷ 1312 ∷ 0 ∷ []) ∷ [])
+    ∷ case a (write 998) ((0 ∷ 0 ∷ 0 ∷ 0 ∷ 998 ∷ []) ∷ [])
+    ∷ case full (write 1312) ((0 ∷ 0 ∷ 0 ∷ 0 ∷ 1312 ∷ []) ∷ [])
+    ∷ case full (write 1311) ((18 ∷ 1312 ∷ 0 ∷ 0 ∷ 0 ∷ []) ∷ [])
     ∷ []
 
 pub cases : map (λ (c : Case). ask (c .script) (c .question)) table ≡ map (λ (c : Case). c .answer) table

@@ -11,3 +11,4 @@ pub mod Printed
 pub mod FieldLoops
 pub mod Readback
 pub mod Prints
+pub mod Named

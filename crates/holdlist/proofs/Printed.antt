@@ -17,7 +17,7 @@ use Rattle.holdlist.specs.Runs.{stepCount, stepWord, stepCounts, stepWor
 use Rattle.holdlist.specs.Compile.{roomOf, profileWords, fieldRuns, compileAnswer, compileCounts, compileWords, Compiles}
 use Rattle.holdlist.specs.Text.{headLine, stepLineAt, listing, refusedLine, printedAnswer, printedOf, printed}
 use Rattle.holdlist.proofs.Demanded.{compile-cases}
-use Rattle.holdlist.proofs.Spelling.{listing-length, refused-length}
+use Rattle.holdlist.proofs.Spelling.{Wide, listing-length, refused-length}
 
 pub answer-listing :
     (c : Compiled) (cs ws : List ℕ) → c .verdict .number ≡ 0 → printedAnswer c cs ws ≡ listing (c .steps) (c .pixels) cs ws
@@ -25,22 +25,22 @@ unfolding printedAnswer
 answer-listing c cs ws e = rw (eq-eqb (c .verdict .number) 0 e)
 
 pub answer-refused :
-    (c : Compiled) (cs ws : List ℕ) → (c .verdict .number ≡ 0 → ⊥) → printedAnswer c cs ws ≡ refusedLine (c .verdict .number) (c .verdict .place)
+    (c : Compiled) (cs ws : List ℕ) → (c .verdict .number ≡ 0 → ⊥) → printedAnswer c cs ws ≡ refusedLine (c .verdict)
 unfolding printedAnswer
 answer-refused c cs ws n = rw (ne-eqb (c .verdict .number) 0 n)
 
 -- 16 bytes a step, and the longest head line
 pub answer-length :
-    (c : Compiled) (cs ws : List ℕ) → c .verdict .number < 2 ^ 16 → c .verdict .place < 2 ^ 64 → c .steps < 2 ^ 64 → c .pixels < 2 ^ 64 →
+    (c : Compiled) (cs ws : List ℕ) → Wide (c .verdict) → c .steps < 2 ^ 64 → c .pixels < 2 ^ 64 →
     ((i : ℕ) → getD cs i 0 < 2 ^ 32) → length (printedAnswer c cs ws) ≤ 55 + 16 * roomOf cs ws
-answer-length c cs ws n p s x f =
+answer-length c cs ws w s x f =
     by-cases (eqb (c .verdict .number) 0)
     (λ t.
     rw (answer-listing c cs ws (eqb-true _ _ t))
     (omega (arith, listing-length (c .steps) (c .pixels) cs ws s x f)))
     (λ t.
     rw (answer-refused c cs ws (eqb-false _ _ t))
-    (omega (arith, refused-length (c .verdict .number) (c .verdict .place) n p)))
+    (omega (arith, refused-length (c .verdict) w)))
 
 -- ---- what is left past the steps is not printed
 
@@ -77,7 +77,7 @@ answer-runs p cs ws =
 
 pub printed-refused :
     (script : List ℕ) (a : ReadAnswer) → a ≡ readScript script → (a .verdict .number ≡ 0 → ⊥) →
-    refusedLine (a .verdict .number) (a .verdict .place) ≡ printed script
+    refusedLine (a .verdict) ≡ printed script
 unfolding printed
 printed-refused script a e n = rw (← e) (rw (ne-eqb (a .verdict .number) 0 n))
 

@@ -12,7 +12,7 @@ use lib.Seq.{take-all, length-take-le}
 use lib.Dec.{leb, eqb}
 use borrow.Author.Tests.{le-leb, lt-leb, leb-true, leb-false, eqb-true, eqb-false, ne-eqb}
 use Rattle.profile.specs.Bytes.{Bytes}
-use Rattle.profile.specs.Values.{emptyField, emptyProfile, accepted}
+use Rattle.profile.specs.Values.{emptyField, emptyProfile, accepted, refused}
 use Rattle.profile.specs.Geometry.{pixelCount}
 use Rattle.profile.specs.Rules.{checkProfile}
 use Rattle.profile.specs.Script.{mostBytes, readScript}
@@ -56,12 +56,12 @@ module _ (p : Profile) where
 -- ---- what is printed, by what the script reads to
 
 module _ (s : List ℕ) where
-  printed-unread : (n place : ℕ) → readScript s ≡ unread n place → 1 ≤ n → printed s ≡ refusedLine n place
+  printed-unread : (v : Verdict) → readScript s ≡ unread v → 1 ≤ v .number → printed s ≡ refusedLine v
   unfolding printed
-  printed-unread n place e h = rw e (rw (ne-eqb n 0 (omega arith)))
+  printed-unread v e h = rw e (rw (ne-eqb (v .number) 0 (omega arith)))
 
   module _ (p : Profile) (e : readScript s ≡ taken p) (ok : checkProfile p ≡ accepted) where
-    printed-no-room : 4096 < steps p → printed s ≡ refusedLine 18 (steps p)
+    printed-no-room : 4096 < steps p → printed s ≡ refusedLine (refused 18 (steps p))
     unfolding printed printedOf printedAnswer compileAnswer holdAnswer holdVerdict
     printed-no-room h = rw e (rw (ok, lt-leb (steps p) 4096 h))
 
@@ -109,15 +109,15 @@ module _ (s : List ℕ) (b : Bytes s) where
       subst (λ (r : ReadAnswer). checkProfile (r .profile) ≡ accepted) e (read-accepted s b (ap (λ (r : ReadAnswer). r .verdict .number) e))
 
   -- no refusal has the number 0: the empty profile has no field
-  unread-number : (n place : ℕ) → readScript s ≡ unread n place → 1 ≤ n
+  unread-number : (v : Verdict) → readScript s ≡ unread v → 1 ≤ v .number
   unfolding emptyField
-  unread-number n place e =
-      by-cases (eqb n 0)
+  unread-number v e =
+      by-cases (eqb (v .number) 0)
       (λ q.
-      let z : readScript s .verdict .number ≡ 0 = ap (λ (r : ReadAnswer). r .verdict .number) e ∙ eqb-true n 0 q in
+      let z : readScript s .verdict .number ≡ 0 = ap (λ (r : ReadAnswer). r .verdict .number) e ∙ eqb-true (v .number) 0 q in
       let a : checkProfile emptyProfile ≡ accepted = subst (λ (r : ReadAnswer). checkProfile (r .profile) ≡ accepted) e (read-accepted s b z) in
       absurd (false≢true (accepted-field emptyProfile a)))
-      (λ q. omega (arith, eqb-false n 0 q))
+      (λ q. omega (arith, eqb-false (v .number) 0 q))
 
   reads : {a : ReadAnswer} → readScript s ≡ a → Reads s a
   reads {a} e = read-exactly s b a .0 e
@@ -135,12 +135,12 @@ module _ (s : List ℕ) (b : Bytes s) where
       (λ q.
       let h = leb-false (steps p) 4096 q in
       no-room p (steps p) (counts p) (words p) (reads e) (shortest p) h
-      (subst (λ (t : List ℕ). TellsRefusal t 18 (steps p)) (sym (printed-no-room s p e ok h)) (refusal-told 18 (steps p))))
+      (subst (λ (t : List ℕ). TellsRefusal t (refused 18 (steps p))) (sym (printed-no-room s p e ok h)) (refusal-told (refused 18 (steps p)))))
 
-  prints-unread : (n place : ℕ) → readScript s ≡ unread n place → Prints s (printed s)
-  prints-unread n place e =
-      refusal n place (reads e)
-      (subst (λ (t : List ℕ). TellsRefusal t n place) (sym (printed-unread s n place e (unread-number n place e))) (refusal-told n place))
+  prints-unread : (v : Verdict) → readScript s ≡ unread v → Prints s (printed s)
+  prints-unread v e =
+      refusal v (reads e)
+      (subst (λ (t : List ℕ). TellsRefusal t v) (sym (printed-unread s v e (unread-number v e))) (refusal-told v))
 
   printed-so : Prints s (printed s)
   printed-so =
@@ -148,20 +148,20 @@ module _ (s : List ℕ) (b : Bytes s) where
       by-cases (eqb (v .number) 0)
       (λ q. prints-taken (readScript s .profile) (ap (λ (w : Verdict). record { verdict = w; profile = readScript s .profile }) (read-verdict s (eqb-true (v .number) 0 q))))
       (λ q.
-      prints-unread (v .number) (v .place)
+      prints-unread v
       (ap (λ (p : Profile). record { verdict = v; profile = p }) (read-refused s (eqb-false (v .number) 0 q))))
 
   -- ---- and no other text is
 
   printed-one : (text : List ℕ) → Prints s text → printed s ≡ text
-  printed-one text (refusal n place r t) =
-      let e = read-exactly s b (unread n place) .1 r in
-      printed-unread s n place e (unread-number n place e) ∙ tells-refusal-one _ text n place (refusal-told n place) t
+  printed-one text (refusal v r t) =
+      let e = read-exactly s b (unread v) .1 r in
+      printed-unread s v e (unread-number v e) ∙ tells-refusal-one _ text v (refusal-told v) t
   printed-one text (no-room p k cs ws r w h t) =
       let e = read-exactly s b (taken p) .1 r in
       let same = shortest-steps p w in
       printed-no-room s p e (taken-accepted p e) (omega (arith, h, same))
-      ∙ tells-refusal-one _ text 18 (steps p) (refusal-told 18 (steps p)) (rw same at t)
+      ∙ tells-refusal-one _ text (refused 18 (steps p)) (refusal-told (refused 18 (steps p))) (rw same at t)
   printed-one text (steps-told p k cs ws r w h t) =
       let e = read-exactly s b (taken p) .1 r in
       let same = shortest-steps p w in
@@ -175,7 +175,7 @@ module _ (s : List ℕ) (b : Bytes s) where
 
 -- ---- what is past the first 16,385 bytes makes no difference: the program may stop reading there
 
-too-long : (s : List ℕ) → mostBytes < length s → readScript s ≡ unread 1 0
+too-long : (s : List ℕ) → mostBytes < length s → readScript s ≡ unread (refused 1 0)
 unfolding readScript
 too-long s h = rw (lt-leb (length s) mostBytes h)
 
@@ -186,5 +186,5 @@ printed-enough s =
     (λ q.
     let h = leb-false (length s) 16385 q in
     let l : length (take 16385 s) ≡ 16385 = length-take-le 16385 s (omega arith) in
-    printed-unread (take 16385 s) 1 0 (too-long (take 16385 s) (omega arith)) (omega arith)
-    ∙ sym (printed-unread s 1 0 (too-long s (omega arith)) (omega arith)))
+    printed-unread (take 16385 s) (refused 1 0) (too-long (take 16385 s) (omega arith)) (omega arith)
+    ∙ sym (printed-unread s (refused 1 0) (too-long s (omega arith)) (omega arith)))

@@ -1,19 +1,21 @@
--- What is printed, read back (specs/Readback.antt), tells S, P and each step, or N and P of a refusal, and no other text tells the same: a text is its
+-- What is printed, read back (specs/Readback.antt), tells S, P and each step, or a refusal's verdict, and no other text tells the same: a text is its
 -- parts with the byte between them put back, so equal parts are equal texts, and decimal digits, or four hex digits, are known by the number they tell.
 -- Assumes nothing.
 use Prim.Native.Nat.{ℕ, zero, suc, _+_, _*_, _-_, _/_, _%_, _≤_, _<_, min}
 use native.Mathlib.Omega.{arith}
 use mathlib.Core.Path.{_≡_, refl, sym, ap, _∙_}
 use mathlib.Core.Logic.{inl, inr, ⊎-elim}
+use mathlib.Core.Bool.{Bool, true, false, cond}
 use mathlib.Core.List.{List, [], _∷_, _++_, append-assoc, append-nil}
 use borrow.Author.Tests.{eq-eqb, ne-eqb, eqb-true, eqb-false, lt-ltb, le-ltb, ltb-true, ltb-false}
 use lib.Dec.{ltb, eqb}
 use lib.ListN.{length, getD, take, length-append, List·getD-append}
 use lib.Seq.{getD-append-add, getD-at, getD-take, take-all, take-suc, length-take-le, ext-getD}
 use Rattle.profile.specs.Lists.{Each, chunks}
+use Rattle.profile.specs.declared.Verdict.{Verdict}
 use Rattle.profile.proofs.Laws.{by-cases, length-ones, getD-ones, each-append}
 use Rattle.holdlist.specs.Compile.{roomOf}
-use Rattle.holdlist.specs.Text.{digit, leading, decimal, valueAfter, valueOf, hexDigit, hex4, headLine, stepLine, refusedLine, stepLineAt, listing}
+use Rattle.holdlist.specs.Text.{digit, leading, decimal, valueAfter, valueOf, hexDigit, hex4, refusedWord, headLine, stepLine, toggleText, refusedLine, stepLineAt, listing}
 use Rattle.holdlist.specs.Readback.{partsAfter, linesOf, Lines, fieldsOf, Decimal, hexDigitValue, hexAfter, hexValueOf, HexDigit, Hex, Tells, TellsRefusal}
 use Rattle.holdlist.proofs.Spelling.{Digits, leading-none, leading-more, value-append, decimal-value, decimal-digits, decimal-zero, decimal-leads}
 
@@ -259,16 +261,30 @@ module _ (s p : ℕ) where
   unfolding headLine
   head-line rest = simp append-assoc (row-line stepsField headOthers head-above rest)
 
-module _ (n p : ℕ) where
-  abbrev refusedOthers : List (List ℕ)
-  refusedOthers = decimal n ∷ decimal p ∷ []
+module _ (v : Verdict) where
+  abbrev toggleOthers : Bool → List (List ℕ)
+  toggleOthers b = cond b (decimal (v .output) ∷ decimal (v .toggle) ∷ []) []
 
-  refused-above : Each (Above 32) (refusedField ∷ refusedOthers)
-  refused-above = (omega arith, (decimal-above n, (decimal-above p, tt)))
+  abbrev refusedOthers : Bool → List (List ℕ)
+  refusedOthers b = decimal (v .number) ∷ decimal (v .place) ∷ toggleOthers b
 
-  refused-line : linesOf (refusedLine n p) ≡ row refusedField refusedOthers [] ∷ linesOf []
-  unfolding refusedLine
-  refused-line = simp append-assoc (row-line refusedField refusedOthers refused-above [])
+  refused-above : (b : Bool) → Each (Above 32) (refusedField ∷ refusedOthers b)
+  refused-above true = (omega arith, (decimal-above (v .number), (decimal-above (v .place), (decimal-above (v .output), (decimal-above (v .toggle), tt)))))
+  refused-above false = (omega arith, (decimal-above (v .number), (decimal-above (v .place), tt)))
+
+  refused-many : (b : Bool) → length (refusedField ∷ refusedOthers b) ≡ cond b 5 3
+  refused-many true = refl
+  refused-many false = refl
+
+  refused-front : (rest : List ℕ)
+      → refusedWord ++ decimal (v .number) ++ (32 ∷ []) ++ decimal (v .place) ++ rest
+      ≡ refusedField ++ 32 ∷ (decimal (v .number) ++ 32 ∷ (decimal (v .place) ++ rest))
+  refused-front rest = simp append-assoc
+
+  refused-line : (b : Bool) → eqb (v .number) 10 ≡ b → linesOf (refusedLine v) ≡ row refusedField (refusedOthers b) [] ∷ linesOf []
+  unfolding refusedLine toggleText
+  refused-line true e = ap linesOf (refused-front _) ∙ rw e (simp append-assoc (row-line refusedField (refusedOthers true) (refused-above true) []))
+  refused-line false e = ap linesOf (refused-front _) ∙ rw e (row-line refusedField (refusedOthers false) (refused-above false) [])
 
 module _ (cs ws : List ℕ) (i : ℕ) where
   abbrev stepOthers : List (List ℕ)
@@ -302,17 +318,22 @@ unfolding partsAfter
 lines-told text ls n e h =
     record { many = omega (arith, ap length e, length-append ls ([] ∷ [])); ended = rw e (getD-at ls [] [] [] n h) }
 
-pub refusal-told : (n p : ℕ) → TellsRefusal (refusedLine n p) n p
-refusal-told n p =
-    let l = refused-line n p in
-    let f = row-fields refusedField (refusedOthers n p) (refused-above n p) (refusedLine n p) 0 (rw l) in
-    record {
-      lines = lines-told (refusedLine n p) (row refusedField (refusedOthers n p) [] ∷ []) 1 l refl;
-      head = rw f;
-      begins = rw f;
-      number-told = rw f (decimal-reads n);
-      place-told = rw f (decimal-reads p);
-    }
+pub refusal-told : (v : Verdict) → TellsRefusal (refusedLine v) v
+refusal-told v = go (eqb (v .number) 10) refl
+  where
+    go : (b : Bool) → eqb (v .number) 10 ≡ b → TellsRefusal (refusedLine v) v
+    go b e =
+        let l = refused-line v b e in
+        let f = row-fields refusedField (refusedOthers v b) (refused-above v b) (refusedLine v) 0 (rw l) in
+        record {
+          lines = lines-told (refusedLine v) (row refusedField (refusedOthers v b) [] ∷ []) 1 l refl;
+          head = rw (f, e) (refused-many v b);
+          begins = rw f;
+          number-told = rw f (decimal-reads (v .number));
+          place-told = rw f (decimal-reads (v .place));
+          output-told = λ z. let t : b ≡ true = sym e ∙ eq-eqb (v .number) 10 z in rw (f, t) (decimal-reads (v .output));
+          toggle-told = λ z. let t : b ≡ true = sym e ∙ eq-eqb (v .number) 10 z in rw (f, t) (decimal-reads (v .toggle));
+        }
 
 -- a listing of as many steps as it says, each word of 16 bits
 module _ (s p : ℕ) (cs ws : List ℕ) (hc : length cs ≡ s) (hw : length ws ≡ s) (small : (i : ℕ) → getD ws i 0 < 65536) where
@@ -361,12 +382,19 @@ text-one a b n p q f =
     (λ e. rw (eqb-true i n e) (p .ended ∙ sym (q .ended)))
     (λ e. parts-one 32 _ _ (f i (omega (arith, p .many, eqb-false i n e))))))
 
-pub tells-refusal-one : (a b : List ℕ) (n p : ℕ) → TellsRefusal a n p → TellsRefusal b n p → a ≡ b
-tells-refusal-one a b n p t u =
+pub tells-refusal-one : (a b : List ℕ) (v : Verdict) → TellsRefusal a v → TellsRefusal b v → a ≡ b
+tells-refusal-one a b v t u =
     let begins = t .begins ∙ sym (u .begins) in
-    let number = decimal-one _ _ n (t .number-told) (u .number-told) in
-    let place = decimal-one _ _ p (t .place-told) (u .place-told) in
-    let fields = list-one [] 3 (fieldsOf a 0) (fieldsOf b 0) (t .head) (u .head) (begins, (number, (place, tt))) in
+    let number = decimal-one _ _ (v .number) (t .number-told) (u .number-told) in
+    let place = decimal-one _ _ (v .place) (t .place-told) (u .place-told) in
+    let fields : fieldsOf a 0 ≡ fieldsOf b 0 =
+    by-cases (eqb (v .number) 10)
+    (λ e.
+    let z = eqb-true (v .number) 10 e in
+    let output = decimal-one _ _ (v .output) (t .output-told z) (u .output-told z) in
+    let toggle = decimal-one _ _ (v .toggle) (t .toggle-told z) (u .toggle-told z) in
+    list-one [] 5 (fieldsOf a 0) (fieldsOf b 0) (rw e at (t .head)) (rw e at (u .head)) (begins, (number, (place, (output, (toggle, tt))))))
+    (λ e. list-one [] 3 (fieldsOf a 0) (fieldsOf b 0) (rw e at (t .head)) (rw e at (u .head)) (begins, (number, (place, tt)))) in
     text-one a b 1 (t .lines) (u .lines) (first-at 1 (λ i. fieldsOf a i ≡ fieldsOf b i) (fields, tt))
 
 module _ (a b : List ℕ) (s p : ℕ) (cs ws : List ℕ) (t : Tells a s p cs ws) (u : Tells b s p cs ws) where

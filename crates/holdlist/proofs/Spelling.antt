@@ -7,9 +7,11 @@ use mathlib.Core.Path.{_≡_, refl, sym, ap, _∙_}
 use mathlib.Core.List.{List, [], _∷_, _++_, append-assoc}
 use lib.ListN.{length, getD, drop, set, length-append, length-set, drop-of-length-le}
 use mathlib.Core.Logic.{⊎-elim}
-use Rattle.profile.proofs.Laws.{length-chunks-le}
+use lib.Dec.{eqb}
+use Rattle.profile.specs.declared.Verdict.{Verdict}
+use Rattle.profile.proofs.Laws.{cond-case, length-chunks-le}
 use Rattle.holdlist.specs.Compile.{roomOf}
-use Rattle.holdlist.specs.Text.{digit, leadingIn, leading, decimal, valueAfter, valueOf, headLine, stepLine, refusedLine, stepLineAt, listing}
+use Rattle.holdlist.specs.Text.{digit, leadingIn, leading, decimal, valueAfter, valueOf, headLine, stepLine, toggleText, refusedLine, stepLineAt, listing}
 
 -- ---- the recursion, free of the number that counts it down
 
@@ -51,10 +53,6 @@ in-value (suc k) (suc m) h = rw (value-append, in-value k (suc m / 10) (omega ar
 pub decimal-value : (n : ℕ) → valueOf (decimal n) ≡ n
 unfolding decimal leading valueAfter
 decimal-value n = rw (value-append, in-value (n / 10) (n / 10) (omega arith)) (omega arith)
-
--- so two numbers are never printed alike
-pub decimal-apart : (n m : ℕ) → decimal n ≡ decimal m → n ≡ m
-decimal-apart n m e = sym (decimal-value n) ∙ ap (λ (s : List ℕ). valueOf s) e ∙ decimal-value m
 
 -- ---- digits, and the first of them
 
@@ -131,9 +129,26 @@ pub step-length : (count word : ℕ) → count < 2 ^ 32 → length (stepLine cou
 unfolding stepLine
 step-length c w h = simp length-append (omega (arith, decimal-length c 9 (omega arith)))
 
-pub refused-length : (number place : ℕ) → number < 2 ^ 16 → place < 2 ^ 64 → length (refusedLine number place) ≤ 35
+toggle-length : (v : Verdict) → v .output < 2 ^ 16 → v .toggle < 2 ^ 16 → length (toggleText v) ≤ 12
+unfolding toggleText
+toggle-length v o t =
+    cond-case (λ (s : List ℕ). length s ≤ 12) (eqb (v .number) 10) _ _
+    (λ e. simp length-append (omega (arith, decimal-length (v .output) 4 (omega arith), decimal-length (v .toggle) 4 (omega arith))))
+    (λ e. omega arith)
+
+-- the widths of a verdict's four numbers
+pub record Wide (v : Verdict) : Type 0 where
+  pub number : v .number < 2 ^ 16
+  pub place : v .place < 2 ^ 64
+  pub output : v .output < 2 ^ 16
+  pub toggle : v .toggle < 2 ^ 16
+
+pub refused-length : (v : Verdict) → Wide v → length (refusedLine v) ≤ 47
 unfolding refusedLine
-refused-length n p h g = simp length-append (omega (arith, decimal-length n 4 (omega arith), decimal-length p 19 (omega arith)))
+refused-length v w =
+    let n = decimal-length (v .number) 4 (omega (arith, w .number)) in
+    let p = decimal-length (v .place) 19 (omega (arith, w .place)) in
+    simp length-append (omega (arith, n, p, toggle-length v (w .output) (w .toggle)))
 
 pub listing-length :
     (steps pixels : ℕ) (cs ws : List ℕ) → steps < 2 ^ 64 → pixels < 2 ^ 64 → ((i : ℕ) → getD cs i 0 < 2 ^ 32) →

@@ -6,9 +6,11 @@ use Prim.Native.Nat.{ℕ, _≤_, _<_}
 use mathlib.Core.Path.{_≡_}
 use mathlib.Core.List.{List}
 use lib.ListN.{length}
+use Rattle.profile.specs.Values.{refused}
 use Rattle.profile.specs.Geometry.{pixelCount}
 use Rattle.profile.specs.Records.{unread, taken, Reads}
 use Rattle.profile.specs.declared.Profile.{Profile}
+use Rattle.profile.specs.declared.Verdict.{Verdict}
 use Rattle.holdlist.specs.Demand.{PlaysField}
 use Rattle.holdlist.specs.Readback.{Tells, TellsRefusal}
 
@@ -20,11 +22,11 @@ pub record Shortest (p : Profile) (steps : ℕ) (counts words : List ℕ) : Type
   pub least : (cs ws : List ℕ) (used : ℕ) → PlaysField (p .tables) (p .field) cs ws used → steps ≤ used
 
 pub data Prints (script text : List ℕ) : Type 0 where
-  -- "`refused N P` alone", of the script's first broken rule
-  refusal : (n place : ℕ) → Reads script (unread n place) → TellsRefusal text n place → Prints script text
+  -- "`refused N P` alone", or "`refused 10 P O T`", of the script's first broken rule
+  refusal : (v : Verdict) → Reads script (unread v) → TellsRefusal text v → Prints script text
   -- "has room for 4,096 steps": 18 with their number, where they are more
   no-room : (p : Profile) (steps : ℕ) (counts words : List ℕ)
-      → Reads script (taken p) → Shortest p steps counts words → 4096 < steps → TellsRefusal text 18 steps → Prints script text
+      → Reads script (taken p) → Shortest p steps counts words → 4096 < steps → TellsRefusal text (refused 18 steps) → Prints script text
   -- S, P and the S steps
   steps-told : (p : Profile) (steps : ℕ) (counts words : List ℕ)
       → Reads script (taken p) → Shortest p steps counts words → steps ≤ 4096 → Tells text steps (pixelCount (p .tables) (p .field)) counts words

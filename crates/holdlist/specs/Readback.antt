@@ -1,5 +1,5 @@
--- The printed text read back: its lines, the fields of a line, and the numbers that they tell. That what is printed tells S, P and each step, or N and
--- P of a refusal, and that no other text tells the same, are theorems (proofs/Readback.antt).
+-- The printed text read back: its lines, the fields of a line, and the numbers that they tell. That what is printed tells S, P and each step, or the
+-- verdict of a refusal, and that no other text tells the same, are theorems (proofs/Readback.antt).
 -- Assumes nothing.
 use Prim.Native.Nat.{ℕ, _+_, _*_, _-_, _≤_, _<_}
 use mathlib.Core.Path.{_≡_}
@@ -8,6 +8,7 @@ use mathlib.Core.List.{List, [], _∷_, _++_}
 use mathlib.Core.Bool.{cond}
 use lib.ListN.{length, getD}
 use lib.Dec.{ltb, eqb}
+use Rattle.profile.specs.declared.Verdict.{Verdict}
 use Rattle.holdlist.specs.Text.{valueOf}
 
 -- ---- lines and fields
@@ -76,10 +77,12 @@ pub record Tells (text : List ℕ) (steps pixels : ℕ) (counts words : List ℕ
   pub count-told : (i : ℕ) → i < steps → Decimal (fieldAt text (1 + i) 0) (getD counts i 0)
   pub word-told : (i : ℕ) → i < steps → Hex (fieldAt text (1 + i) 1) (getD words i 0)
 
--- "or `refused N P` alone"
-pub record TellsRefusal (text : List ℕ) (number place : ℕ) : Type 0 where
+-- "or `refused N P` alone", and for 10 "`refused 10 P O T`"
+pub record TellsRefusal (text : List ℕ) (v : Verdict) : Type 0 where
   pub lines : Lines text 1
-  pub head : length (fieldsOf text 0) ≡ 3
+  pub head : length (fieldsOf text 0) ≡ cond (eqb (v .number) 10) 5 3
   pub begins : fieldAt text 0 0 ≡ 114 ∷ 101 ∷ 102 ∷ 117 ∷ 115 ∷ 101 ∷ 100 ∷ []
-  pub number-told : Decimal (fieldAt text 0 1) number
-  pub place-told : Decimal (fieldAt text 0 2) place
+  pub number-told : Decimal (fieldAt text 0 1) (v .number)
+  pub place-told : Decimal (fieldAt text 0 2) (v .place)
+  pub output-told : v .number ≡ 10 → Decimal (fieldAt text 0 3) (v .output)
+  pub toggle-told : v .number ≡ 10 → Decimal (fieldAt text 0 4) (v .toggle)

@@ -1,5 +1,5 @@
 -- What the program prints, in ASCII: "`steps S pixels P`, then each step as decimal count, space, four upper-case hex digits; or `refused N P` alone; LF
--- ends each line".
+-- ends each line"; and "`refused 10 P O T`".
 -- Assumes nothing.
 use Prim.Native.Nat.{ℕ, zero, suc, _+_, _*_, _-_, _/_, _%_, _≤_, min, max}
 use mathlib.Core.Path.{_≡_}
@@ -7,11 +7,12 @@ use mathlib.Core.List.{List, [], _∷_, _++_}
 use mathlib.Core.Bool.{cond}
 use lib.ListN.{length, getD}
 use lib.Seq.{sets}
-use lib.Dec.{ltb}
+use lib.Dec.{ltb, eqb}
 use Rattle.profile.specs.Lists.{chunks}
 use Rattle.profile.specs.Values.{accepts}
 use Rattle.profile.specs.Script.{readScript}
 use Rattle.profile.specs.declared.Profile.{Profile}
+use Rattle.profile.specs.declared.Verdict.{Verdict}
 use Rattle.holdlist.specs.declared.Compiled.{Compiled}
 use Rattle.holdlist.specs.Runs.{stepCounts, stepWords}
 use Rattle.holdlist.specs.Compile.{fieldRuns, roomOf, compileAnswer}
@@ -69,8 +70,12 @@ headLine steps pixels = stepsWord ++ decimal steps ++ pixelsWord ++ decimal pixe
 unfoldable pub stepLine : ℕ → ℕ → List ℕ
 stepLine count word = decimal count ++ (32 ∷ []) ++ hex4 word ++ (10 ∷ [])
 
-unfoldable pub refusedLine : ℕ → ℕ → List ℕ
-refusedLine number place = refusedWord ++ decimal number ++ (32 ∷ []) ++ decimal place ++ (10 ∷ [])
+-- the output and the toggle that 10 names; nothing for another number
+unfoldable pub toggleText : Verdict → List ℕ
+toggleText v = cond (eqb (v .number) 10) ((32 ∷ []) ++ decimal (v .output) ++ (32 ∷ []) ++ decimal (v .toggle)) []
+
+unfoldable pub refusedLine : Verdict → List ℕ
+refusedLine v = refusedWord ++ decimal (v .number) ++ (32 ∷ []) ++ decimal (v .place) ++ (toggleText v ++ (10 ∷ []))
 
 -- ---- all that is printed
 
@@ -84,7 +89,7 @@ listing steps pixels cs ws = headLine steps pixels ++ chunks (min steps (roomOf 
 -- a compile's answer beside the two lists
 unfoldable pub printedAnswer : Compiled → List ℕ → List ℕ → List ℕ
 printedAnswer c cs ws =
-    cond (accepts (c .verdict)) (listing (c .steps) (c .pixels) cs ws) (refusedLine (c .verdict .number) (c .verdict .place))
+    cond (accepts (c .verdict)) (listing (c .steps) (c .pixels) cs ws) (refusedLine (c .verdict))
 
 -- what is printed for a script; "has room for 4,096 steps"
 unfoldable pub printedOf : Profile → List ℕ
@@ -93,7 +98,7 @@ printedOf p = printedAnswer (compileAnswer p 4096) (stepCounts (fieldRuns p)) (s
 unfoldable pub printed : List ℕ → List ℕ
 printed script =
     cond (accepts (readScript script .verdict)) (printedOf (readScript script .profile))
-    (refusedLine (readScript script .verdict .number) (readScript script .verdict .place))
+    (refusedLine (readScript script .verdict))
 
 -- ---- stores
 

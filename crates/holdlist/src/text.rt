@@ -4,9 +4,10 @@ ghost use mathlib.Core.Path.{_≡_};
 ghost use mathlib.Core.List.{[], _∷_};
 ghost use Prim.Native.Nat.{_<_};
 ghost use lib.ListN.{length, drop};
-ghost use Rattle.holdlist.specs.Text.{digit as digitText, decimal, hexDigit, hex2, hex4, headLine, stepLine, refusedLine, listing, Puts, PutsPrinted};
+ghost use Rattle.holdlist.specs.Text.{digit as digitText, decimal, hexDigit, hex2, hex4, headLine, stepLine, toggleText, refusedLine, listing, Puts, PutsPrinted};
 use crate::Compiled;
 use crate::steps::least;
+use profile::Verdict;
 
 // One byte.
 pub fn put_byte(out: &mut [u8], at: usize, byte: u8) -> usize
@@ -111,14 +112,28 @@ pub fn put_step_line(out: &mut [u8], at: usize, count: u32, word: u16) -> usize
     put_byte(out, c, 10)
 }
 
-pub fn put_refused_line(out: &mut [u8], at: usize, number: u16, place: u64) -> usize
-    ensures { λ r. ⌜ Puts (refusedLine number place) (now (out .entry)) at r (now (out .exit)) ⌝ }
+// The output and the toggle that 10 names.
+fn put_toggle(out: &mut [u8], at: usize, verdict: Verdict) -> usize
+    ensures { λ r. ⌜ Puts (toggleText verdict) (now (out .entry)) at r (now (out .exit)) ⌝ }
+{
+    if verdict.number != 10 {
+        return at;
+    }
+    let a = put_byte(out, at, 32);
+    let b = put_decimal(out, a, verdict.output as u64);
+    let c = put_byte(out, b, 32);
+    put_decimal(out, c, verdict.toggle as u64)
+}
+
+pub fn put_refused_line(out: &mut [u8], at: usize, verdict: Verdict) -> usize
+    ensures { λ r. ⌜ Puts (refusedLine verdict) (now (out .entry)) at r (now (out .exit)) ⌝ }
 {
     let a = put_bytes(out, at, b"refused ");
-    let b = put_decimal(out, a, number as u64);
+    let b = put_decimal(out, a, verdict.number as u64);
     let c = put_byte(out, b, 32);
-    let d = put_decimal(out, c, place);
-    put_byte(out, d, 10)
+    let d = put_decimal(out, c, verdict.place);
+    let e = put_toggle(out, d, verdict);
+    put_byte(out, e, 10)
 }
 
 // The head line, and a line for each of the first steps of two lists, as many as both have.
@@ -156,6 +171,6 @@ pub fn put_printed(
     if verdict.number == 0 {
         put_listing(out, at, answer.steps, answer.pixels, counts, words)
     } else {
-        put_refused_line(out, at, verdict.number, verdict.place)
+        put_refused_line(out, at, verdict)
     }
 }

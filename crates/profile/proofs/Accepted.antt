@@ -1,4 +1,4 @@
--- A profile is accepted exactly where every rule holds at every place, and is refused with the number and the place of the first that does not
+-- A profile is accepted exactly where every rule holds at every place, and is refused with the verdict of the first that does not
 -- (specs/Obeys.antt). Each entry's test is reflected (Reflects), and the entries rise in the stated order, which is computed over the list.
 -- Assumes nothing.
 use Prim.Native.Nat.{ℕ, zero, suc, _+_, _-_, _*_, _≤_, _<_}
@@ -8,22 +8,24 @@ use mathlib.Core.Path.{_≡_, refl, sym, ap, subst, _∙_}
 use mathlib.Core.Logic.{_↔_, _⊎_, inl, inr}
 use mathlib.Core.Bool.{Bool, true, false, not, _&&_, _||_, false≢true}
 use mathlib.Core.List.{List, [], _∷_, _++_, map}
-use lib.Dec.{ltb, leb, lit≤}
-use borrow.Author.Tests.{ltb-true, ltb-false, eqb-true, eq-eqb, ne-eqb}
+use lib.ListN.{length, getD}
+use lib.Dec.{ltb, leb, eqb, lit≤}
+use borrow.Author.Tests.{ltb-true, ltb-false, eqb-true, eqb-false, eq-eqb, ne-eqb}
 use Rattle.profile.specs.Lists.{Each, all, chunks}
 use Rattle.profile.specs.Values.{accepted, refused}
-use Rattle.profile.specs.Patterns.{rowOf, used}
+use Rattle.profile.specs.Patterns.{rowOf, used, inOrder}
 use Rattle.profile.specs.Geometry.{regionCount, regionAt, firstLine, Ordered, gateOf, shutterOf, sequenceAt, patternAt, lineLength, regionSize, gateLines}
 use Rattle.profile.specs.Rules.{
   Entry,
   rule,
   firstBroken,
   startsRight,
-  rowRight,
   hasSecond,
   secondOf,
   secondRight,
   gateRight,
+  toggleRule,
+  rowEntries,
   orderEntries,
   entriesAt,
   regionEntries,
@@ -35,7 +37,7 @@ use Rattle.profile.specs.Rules.{
   checkProfile,
 }
 use Rattle.profile.specs.Ranges.{inRange}
-use Rattle.profile.specs.Obeys.{Used, Rises, Seconds, Before, Starts, Pulses, FieldRule, Rule, turn, Earlier, FirstBroken}
+use Rattle.profile.specs.Obeys.{Used, InOrder, Seconds, Starts, Pulses, FieldRule, Rule, turn, rank, Ahead, Earlier, FirstBroken}
 use Rattle.profile.specs.declared.Mode.{Mode}
 use Rattle.profile.specs.declared.Sequence.{Sequence}
 use Rattle.profile.specs.declared.Pattern.{Pattern}
@@ -43,12 +45,12 @@ use Rattle.profile.specs.declared.Tables.{Tables}
 use Rattle.profile.specs.declared.Field.{Field}
 use Rattle.profile.specs.declared.Profile.{Profile}
 use Rattle.profile.specs.declared.Verdict.{Verdict}
-use Rattle.profile.proofs.Laws.{by-cases, each-map, each-append, each-right}
+use Rattle.profile.proofs.Laws.{by-cases, two-or-three, each-map, each-append, each-right}
 use Rattle.profile.proofs.Checked.{check-range, judge-entries, numbered-rules, EachAt, at-parts, parts-at, rules-parts, parts-rules}
 use Rattle.profile.proofs.Entries.{Numbered, Hold, hold-accepted}
 use Rattle.profile.proofs.Lines.{regions-some}
 use Rattle.profile.proofs.Carried.{says-range}
-use Rattle.profile.proofs.Reflects.{Says, says-lt, says-le, says-true, says-ne, says-and, says-where, says-map, says-used, says-row, says-mask, says-counts, says-ends, says-second, says-gate, says-subck, says-shutter}
+use Rattle.profile.proofs.Reflects.{Says, says-lt, says-le, says-true, says-ne, says-and, says-where, says-map, says-used, says-toggle, says-mask, says-counts, says-ends, says-second, says-gate, says-subck, says-shutter}
 
 -- ---- the first entry that does not hold
 
@@ -86,31 +88,46 @@ first-broken (e ∷ es) = by-cases (e .holds) (λ h. later h (first-broken es)) 
 
 -- ---- the order
 
--- an entry's turn, place and number as one number
+-- an entry's rank as one number
 abbrev key : Entry → ℕ
-key e = 400 * turn (e .verdict .number) + 20 * e .verdict .place + e .verdict .number
+key e =
+    160000 * turn (e .verdict .number) + 8000 * e .verdict .place + 400 * e .verdict .number + 20 * e .verdict .output + e .verdict .toggle
 
-abbrev Small : Entry → Type 0
-Small e = (e .verdict .number < 20) × (e .verdict .place < 20)
+small : Verdict → Bool
+small v = ltb (v .number) 20 && ltb (v .place) 20 && ltb (v .output) 20 && ltb (v .toggle) 20
 
-earlier-less : (a j m b i n : ℕ) → m < 20 → j < 20 → (a < b) ⊎ ((a ≡ b) × Before j m i n) → 400 * a + 20 * j + m < 400 * b + 20 * i + n
-earlier-less a j m b i n u v (inl h) = omega arith
-earlier-less a j m b i n u v (inr (e, inl h)) = omega arith
-earlier-less a j m b i n u v (inr (e, inr h)) = omega arith
+abbrev Small : Verdict → Type 0
+Small v = (v .number < 20) × (v .place < 20) × (v .output < 20) × (v .toggle < 20)
+
+says-small : (v : Verdict) → small v ≡ true → Small v
+unfolding small
+says-small v e =
+    let w = says-and (says-and (says-and (says-lt (v .number) 20) (says-lt (v .place) 20)) (says-lt (v .output) 20)) (says-lt (v .toggle) 20) in
+    let q = w .0 e in
+    (q .0 .0 .0, q .0 .0 .1, q .0 .1, q .1)
+
+earlier-less : (d e : Entry) → Small (d .verdict) → Earlier (d .verdict) (e .verdict) → key d < key e
+earlier-less d e s (inl h) = omega (arith, s .0, s .1, s .2, s .3)
+earlier-less d e s (inr (t, inl h)) = omega (arith, s .0, s .1, s .2, s .3)
+earlier-less d e s (inr (t, inr (p, inl h))) = omega (arith, s .0, s .1, s .2, s .3)
+earlier-less d e s (inr (t, inr (p, inr (n, inl h)))) = omega (arith, s .0, s .1, s .2, s .3)
+earlier-less d e s (inr (t, inr (p, inr (n, inr (o, inl h))))) = omega (arith, s .0, s .1, s .2, s .3)
+earlier-less d e s (inr (t, inr (p, inr (n, inr (o, inr h))))) = absurd (h .1)
 
 -- the entries' keys never fall from k on
 rising : ℕ → List Entry → Bool
 rising k [] = true
-rising k (e ∷ es) = leb k (key e) && (ltb (e .verdict .number) 20 && ltb (e .verdict .place) 20) && rising (key e) es
+rising k (e ∷ es) = leb k (key e) && small (e .verdict) && rising (key e) es
 
 abbrev Above : ℕ → Entry → Type 0
-Above k e = (k ≤ key e) × Small e
+Above k e = (k ≤ key e) × Small (e .verdict)
 
 rising-says : (k : ℕ) (e : Entry) (es : List Entry) → rising k (e ∷ es) ≡ true → Above k e × (rising (key e) es ≡ true)
 unfolding rising
 rising-says k e es r =
-    let w = says-and (says-and (says-le k (key e)) (says-and (says-lt (e .verdict .number) 20) (says-lt (e .verdict .place) 20))) (says-true (rising (key e) es)) in
-    w .0 r
+    let w = says-and (says-and (says-le k (key e)) (says-true (small (e .verdict)))) (says-true (rising (key e) es)) in
+    let q = w .0 r in
+    ((q .0 .0, says-small (e .verdict) (q .0 .1)), q .1)
 
 rising-above : (k : ℕ) (es : List Entry) → rising k es ≡ true → Each (Above k) es
 rising-above k [] r = tt
@@ -131,17 +148,33 @@ less-or a b f g h =
     (λ q. f (ltb-true a b q))
     (λ q. by-cases (ltb b a) (λ r. g (ltb-true b a r)) (λ r. h (omega (arith, ltb-false a b q, ltb-false b a r))))
 
--- of two rules at places, one is earlier, or they are the same
-same-rule : (m j n i : ℕ) → (Earlier m j n i → ⊥) → (Earlier n i m j → ⊥) → (m ≡ n) × (j ≡ i)
-same-rule m j n i a b =
-    less-or (turn m) (turn n) (λ h. absurd (a (inl h))) (λ h. absurd (b (inl h)))
+-- of two lists of one length, one is ahead, or they are the same
+same-list : (xs ys : List ℕ) → length xs ≡ length ys → (Ahead xs ys → ⊥) → (Ahead ys xs → ⊥) → xs ≡ ys
+same-list [] [] l a b = refl
+same-list [] (y ∷ ys) l a b = absurd (omega arith)
+same-list (x ∷ xs) [] l a b = absurd (omega arith)
+same-list (x ∷ xs) (y ∷ ys) l a b =
+    less-or x y (λ h. absurd (a (inl h))) (λ h. absurd (b (inl h)))
     (λ e.
-    less-or j i (λ h. absurd (a (inr (e, inl h)))) (λ h. absurd (b (inr (sym e, inl h))))
-    (λ z. less-or m n (λ h. absurd (a (inr (e, inr (z, h))))) (λ h. absurd (b (inr (sym e, inr (sym z, h))))) (λ h. (h, z))))
+    ap (λ (z : ℕ). z ∷ xs) e
+    ∙ ap (λ (zs : List ℕ). y ∷ zs) (same-list xs ys (omega arith) (λ h. a (inr (e, h))) (λ h. b (inr (sym e, h)))))
 
--- an entry of rule n at place i holds
-abbrev At : ℕ → ℕ → Entry → Type 0
-At n i e = e .verdict .number ≡ n → e .verdict .place ≡ i → e .holds ≡ true
+-- a verdict by its rank
+abbrev ranked : List ℕ → Verdict
+ranked r = record { number = getD r 2 0; place = getD r 1 0; output = getD r 3 0; toggle = getD r 4 0 }
+
+-- of two verdicts, one names an earlier rule, or they are the same
+same-rule : (v w : Verdict) → (Earlier v w → ⊥) → (Earlier w v → ⊥) → v ≡ w
+same-rule v w a b = ap ranked (same-list (rank v) (rank w) refl a b)
+
+-- an entry that answers v holds
+abbrev At : Verdict → Entry → Type 0
+At v e = e .verdict ≡ v → e .holds ≡ true
+
+-- toggle 2 or 3 of an output has its entry
+each-toggle : (P : Entry → Type 0) (i : ℕ) (uses : ℕ → Bool) (row : List ℕ) (k j : ℕ) → (j ≡ 2) ⊎ (j ≡ 3) → Each P (rowEntries i uses row k)
+    → P (toggleRule i uses row k j)
+each-toggle P i uses row k j d w = two-or-three (λ m. P (toggleRule i uses row k m)) (w .0) (w .1 .0) j d
 
 -- ---- each test says its row
 
@@ -181,68 +214,73 @@ module _ (t : Tables) (f : Field) where
     abbrev pattern : Pattern
     pattern = patternAt t f i
 
-    says-toggles : (k : ℕ)
-        → Says (rowRight (used mode (pattern .length)) (rowOf (pattern .toggles) k))
-        (Rises (Used mode (pattern .length)) (rowOf (pattern .toggles) k))
-    says-toggles k = says-row _ _ (says-used mode (pattern .length)) (rowOf (pattern .toggles) k)
+    says-toggles : (k j : ℕ)
+        → Says (inOrder (used mode (pattern .length)) (rowOf (pattern .toggles) k) j)
+        (InOrder (Used mode (pattern .length)) (rowOf (pattern .toggles) k) j)
+    says-toggles k j = says-toggle _ _ (says-used mode (pattern .length)) (rowOf (pattern .toggles) k) j
 
   -- ---- a rule that holds passes its tests
 
   abbrev Passes : Entry → Type 0
-  Passes e = FieldRule t f (e .verdict .number) (e .verdict .place) → e .holds ≡ true
+  Passes e = FieldRule t f (e .verdict) → e .holds ≡ true
 
   passes-region : (i : ℕ) → i < regionCount f → Each Passes (regionEntries t f i)
   passes-region i h =
       parts-at Passes i (mode i) (sequence i) (pattern i) (regionSize t f i)
       (record {
-        given = λ r. r .sequence-given refl h;
-        length = λ r. says-ne (pattern i .length) 0 .1 (r .pattern-length refl h);
-        toggles = λ k l. ((λ r. says-toggles i k .1 (r .toggle-order refl h k l)), tt);
+        given = λ r. r .sequence-given i refl h;
+        length = λ r. says-ne (pattern i .length) 0 .1 (r .pattern-length i refl h);
+        toggles = λ k l. (
+          (λ r. says-toggles i k 2 .1 (r .toggle-order i k 2 refl h l (inl refl))),
+          ((λ r. says-toggles i k 3 .1 (r .toggle-order i k 3 refl h l (inr refl))), tt),
+        );
         runs = (
-          (λ r. says-mask (mode i) (sequence i .mask) (pattern i) .1 (r .mask refl h)),
+          (λ r. says-mask (mode i) (sequence i .mask) (pattern i) .1 (r .mask i refl h)),
           (
-            (λ r. says-counts (mode i) (sequence i) (pattern i) .1 (r .repetitions refl h)),
-            ((λ r. says-ends (mode i) (sequence i) (pattern i) (regionSize t f i) .1 (r .run-ends refl h)), tt),
+            (λ r. says-counts (mode i) (sequence i) (pattern i) .1 (r .repetitions i refl h)),
+            ((λ r. says-ends (mode i) (sequence i) (pattern i) (regionSize t f i) .1 (r .run-ends i refl h)), tt),
           ),
         );
       })
 
   passes-lines : Each Passes (lineEntries t f)
   unfolding lineEntries
-  passes-lines = ((λ r. says-lines .1 (r .gate-line refl refl .0)), ((λ r. says-seconds .1 (r .gate-line refl refl .1)), tt))
+  passes-lines = ((λ r. says-lines .1 (r .gate-line refl .0)), ((λ r. says-seconds .1 (r .gate-line refl .1)), tt))
 
   passes-rules : Each Passes (rulesOf t f)
   passes-rules =
       parts-rules Passes t f
       (record {
-        order = λ i h. ((λ r. says-starts f i .1 (r .region-order refl h)), tt);
+        order = λ i h. ((λ r. says-starts f i .1 (r .region-order i refl h)), tt);
         region = passes-region;
         lines = passes-lines;
-        gates = λ k h. ((λ r. says-pulses k .1 (r .gate-pulse refl h)), tt);
-        subck = ((λ r. says-subck (t .subck) .1 (r .subck refl refl)), tt);
-        shutters = λ k h. ((λ r. says-shutter t f (shutterOf t k) .1 (r .shutter refl h)), tt);
+        gates = λ k h. ((λ r. says-pulses k .1 (r .gate-pulse k refl h)), tt);
+        subck = ((λ r. says-subck (t .subck) .1 (r .subck refl)), tt);
+        shutters = λ k h. ((λ r. says-shutter t f (shutterOf t k) .1 (r .shutter k refl h)), tt);
       })
 
   -- ---- a rule whose tests pass holds
 
-  holds-field : (n i : ℕ) → Each (At n i) (rulesOf t f) → FieldRule t f n i
+  holds-field : (v : Verdict) → Each (At v) (rulesOf t f) → FieldRule t f v
   unfolding lineEntries
-  holds-field n i w =
-      let all = rules-parts (At n i) t f w in
-      let region : i < regionCount f → EachAt (At n i) i (mode i) (sequence i) (pattern i) (regionSize t f i) =
-      λ h. at-parts (At n i) i (mode i) (sequence i) (pattern i) (regionSize t f i) (all .region i h) in
+  holds-field v w =
+      let all = rules-parts (At v) t f w in
+      let region : (i : ℕ) → i < regionCount f → EachAt (At v) i (mode i) (sequence i) (pattern i) (regionSize t f i) =
+      λ i h. at-parts (At v) i (mode i) (sequence i) (pattern i) (regionSize t f i) (all .region i h) in
       record {
-        region-order = λ e h. says-starts f i .0 (all .order i h .0 (sym e) refl);
-        sequence-given = λ e h. region h .given (sym e) refl;
-        pattern-length = λ e h. says-ne (pattern i .length) 0 .0 (region h .length (sym e) refl);
-        toggle-order = λ e h k l. says-toggles i k .0 (region h .toggles k l .0 (sym e) refl);
-        mask = λ e h. says-mask (mode i) (sequence i .mask) (pattern i) .0 (region h .runs .0 (sym e) refl);
-        repetitions = λ e h. says-counts (mode i) (sequence i) (pattern i) .0 (region h .runs .1 .0 (sym e) refl);
-        run-ends = λ e h. says-ends (mode i) (sequence i) (pattern i) (regionSize t f i) .0 (region h .runs .1 .1 .0 (sym e) refl);
-        gate-line = λ e z. (says-lines .0 (all .lines .0 (sym e) (sym z)), says-seconds .0 (all .lines .1 .0 (sym e) (sym z)));
-        gate-pulse = λ e h. says-pulses i .0 (all .gates i h .0 (sym e) refl);
-        subck = λ e z. says-subck (t .subck) .0 (all .subck .0 (sym e) (sym z));
-        shutter = λ e h. says-shutter t f (shutterOf t i) .0 (all .shutters i h .0 (sym e) refl);
+        region-order = λ i e h. says-starts f i .0 (all .order i h .0 (sym e));
+        sequence-given = λ i e h. region i h .given (sym e);
+        pattern-length = λ i e h. says-ne (pattern i .length) 0 .0 (region i h .length (sym e));
+        toggle-order = λ i k j e h l d.
+            says-toggles i k j .0
+            (each-toggle (At v) i (used (mode i) (pattern i .length)) (rowOf (pattern i .toggles) k) k j d (region i h .toggles k l) (sym e));
+        mask = λ i e h. says-mask (mode i) (sequence i .mask) (pattern i) .0 (region i h .runs .0 (sym e));
+        repetitions = λ i e h. says-counts (mode i) (sequence i) (pattern i) .0 (region i h .runs .1 .0 (sym e));
+        run-ends = λ i e h. says-ends (mode i) (sequence i) (pattern i) (regionSize t f i) .0 (region i h .runs .1 .1 .0 (sym e));
+        gate-line = λ e. (says-lines .0 (all .lines .0 (sym e)), says-seconds .0 (all .lines .1 .0 (sym e)));
+        gate-pulse = λ k e h. says-pulses k .0 (all .gates k h .0 (sym e));
+        subck = λ e. says-subck (t .subck) .0 (all .subck .0 (sym e));
+        shutter = λ k e h. says-shutter t f (shutterOf t k) .0 (all .shutters k h .0 (sym e));
       }
 
 -- ---- the rules of a profile
@@ -260,24 +298,24 @@ module _ (p : Profile) where
   numbered = (lit≤ tt, (lit≤ tt, numbered-rules (p .tables) (p .field)))
 
   abbrev Passed : Entry → Type 0
-  Passed e = Rule p (e .verdict .number) (e .verdict .place) → e .holds ≡ true
+  Passed e = Rule p (e .verdict) → e .holds ≡ true
 
   passes : Each Passed checks
   passes = (
-    (λ r. says-range p .1 (r .values refl refl)),
+    (λ r. says-range p .1 (r .values refl)),
     (
-      (λ r. r .field-given refl refl .0),
+      (λ r. r .field-given refl .0),
       each-map (Passes (p .tables) (p .field)) Passed (λ e h r. h (r .fields .0)) (rulesOf (p .tables) (p .field))
           (passes-rules (p .tables) (p .field)),
     ),
   )
 
-  holds : (n i : ℕ) → Each (At n i) checks → Rule p n i
-  holds n i w =
+  holds : (v : Verdict) → Each (At v) checks → Rule p v
+  holds v w =
       record {
-        values = λ e z. says-range p .0 (w .0 (sym e) (sym z));
-        field-given = λ e z. (w .1 .0 (sym e) (sym z), tt);
-        fields = (holds-field (p .tables) (p .field) n i (w .1 .1), tt);
+        values = λ e. says-range p .0 (w .0 (sym e));
+        field-given = λ e. (w .1 .0 (sym e), tt);
+        fields = (holds-field (p .tables) (p .field) v (w .1 .1), tt);
       }
 
   -- ---- the entries rise in the stated order, whatever the number of regions
@@ -293,7 +331,7 @@ module _ (p : Profile) where
       ++ subckEntries (p .tables)
       ++ chunks 2 (shutterEntries (p .tables) (p .field))))
       ≡ true
-  unfolding rising chunks entriesAt lineEntries
+  unfolding rising small chunks entriesAt lineEntries
   rising-rules zero h = refl
   rising-rules (suc zero) h = refl
   rising-rules (suc (suc zero)) h = refl
@@ -314,93 +352,90 @@ module _ (p : Profile) where
     abbrev at : Verdict
     at = w .entry .verdict
 
-    not-before : (m j : ℕ) → Earlier m j (at .number) (at .place) → (d : Entry) → Above (key (w .entry)) d → At m j d
-    not-before m j e d a n i =
-        let v = d .verdict in
-        let l : Earlier (v .number) (v .place) (at .number) (at .place) = rw (n, i) e in
-        absurd (omega (arith, a .0, earlier-less (turn (v .number)) (v .place) (v .number) (turn (at .number)) (at .place) (at .number) (a .1 .0) (a .1 .1) l))
+    not-before : (v : Verdict) → Earlier v at → (d : Entry) → Above (key (w .entry)) d → At v d
+    not-before v e d a z =
+        absurd (omega (arith, a .0, earlier-less d (w .entry) (a .1) (subst (λ (u : Verdict). Earlier u at) (sym z) e)))
 
-    first-is : FirstBroken p (at .number) (at .place)
+    first-is : FirstBroken p at
     first-is =
         record {
           broken = λ r.
               let q = each-right Passed (w .before) (w .entry ∷ w .after) (subst (λ (es : List Entry). Each Passed es) (w .there) passes) .0 in
               false≢true (sym (w .broken) ∙ q r);
-          before = λ m j e.
-              holds m j
-              (subst (λ (es : List Entry). Each (At m j) es) (sym (w .there))
-              (each-append (At m j) (w .before) (w .entry ∷ w .after)
-              (each-map (λ d. d .holds ≡ true) (At m j) (λ d h n i. h) (w .before) (w .hold))
-              (each-map (Above (key (w .entry))) (At m j) (not-before m j e) (w .entry ∷ w .after)
+          before = λ v e.
+              holds v
+              (subst (λ (es : List Entry). Each (At v) es) (sym (w .there))
+              (each-append (At v) (w .before) (w .entry ∷ w .after)
+              (each-map (λ d. d .holds ≡ true) (At v) (λ d h z. h) (w .before) (w .hold))
+              (each-map (Above (key (w .entry))) (At v) (not-before v e) (w .entry ∷ w .after)
               (rising-from 0 (w .before) (w .entry) (w .after)
               (subst (λ (es : List Entry). rising 0 es ≡ true) (w .there) rises)))));
         }
 
   -- every rule holds, or one is the first that does not
   abbrev pub Judged : Verdict → Type 0
-  Judged v = (((n i : ℕ) → Rule p n i) × (v ≡ accepted)) ⊎ FirstBroken p (v .number) (v .place)
+  Judged v = (((w : Verdict) → Rule p w) × (v ≡ accepted)) ⊎ FirstBroken p v
 
   pub check-judged : Judged (checkProfile p)
   check-judged = subst Judged (sym check-entries) (go (first-broken checks))
     where
       go : Hold checks ⊎ First checks → Judged (firstBroken checks)
       go (inl h) = inl (
-        (λ n i. holds n i (each-map (λ d. d .holds ≡ true) (At n i) (λ d h n i. h) checks h)),
+        (λ v. holds v (each-map (λ d. d .holds ≡ true) (At v) (λ d h z. h) checks h)),
         hold-accepted checks h,
       )
-      go (inr w) = inr (subst (λ (v : Verdict). FirstBroken p (v .number) (v .place)) (sym (w .named)) (first-is w))
+      go (inr w) = inr (subst (FirstBroken p) (sym (w .named)) (first-is w))
 
   -- no rule has the number 0
-  rule-0 : (i : ℕ) → Rule p 0 i
-  rule-0 i =
-      holds 0 i (each-map (λ e. 1 ≤ e .verdict .number) (At 0 i) (λ e h z. absurd (omega (arith, h, z))) checks numbered)
-
-named-so : (v : Verdict) (n i : ℕ) → v .number ≡ n → v .place ≡ i → v ≡ refused n i
-named-so v n i e z = ap (λ (m : ℕ). refused m (v .place)) e ∙ ap (λ (j : ℕ). refused n j) z
+  rule-0 : (v : Verdict) → v .number ≡ 0 → Rule p v
+  rule-0 v z =
+      holds v
+      (each-map (λ e. 1 ≤ e .verdict .number) (At v)
+      (λ e h q. absurd (omega (arith, h, ap (λ (u : Verdict). u .number) q, z))) checks numbered)
 
 -- ---- the whole check
 
 -- "A profile is accepted exactly when it breaks no rule of 01"
-pub accepted-exactly : (p : Profile) → (checkProfile p ≡ accepted) ↔ ((n i : ℕ) → Rule p n i)
+pub accepted-exactly : (p : Profile) → (checkProfile p ≡ accepted) ↔ ((v : Verdict) → Rule p v)
 accepted-exactly p = ((λ e. to e (check-judged p)), λ r. from r (check-judged p))
   where
-    to : checkProfile p ≡ accepted → Judged p (checkProfile p) → (n i : ℕ) → Rule p n i
+    to : checkProfile p ≡ accepted → Judged p (checkProfile p) → (v : Verdict) → Rule p v
     to e (inl w) = w .0
-    to e (inr w) = absurd (subst (λ (v : Verdict). FirstBroken p (v .number) (v .place)) e w .broken (rule-0 p 0))
+    to e (inr w) = absurd (subst (FirstBroken p) e w .broken (rule-0 p accepted refl))
 
-    from : ((n i : ℕ) → Rule p n i) → Judged p (checkProfile p) → checkProfile p ≡ accepted
+    from : ((v : Verdict) → Rule p v) → Judged p (checkProfile p) → checkProfile p ≡ accepted
     from r (inl w) = w .1
-    from r (inr w) = absurd (w .broken (r (checkProfile p .number) (checkProfile p .place)))
+    from r (inr w) = absurd (w .broken (r (checkProfile p)))
 
--- "else the first broken rule in the stated order is named": its number and its place
-pub refused-exactly : (p : Profile) (n i : ℕ) → 1 ≤ n → (checkProfile p ≡ refused n i) ↔ FirstBroken p n i
-refused-exactly p n i h = ((λ e. to e (check-judged p)), λ b. from b (check-judged p))
+-- "else the first broken rule in the stated order is named": its number and its place, and of 10 the output and the toggle
+pub refused-exactly : (p : Profile) (v : Verdict) → 1 ≤ v .number → (checkProfile p ≡ v) ↔ FirstBroken p v
+refused-exactly p v h = ((λ e. to e (check-judged p)), λ b. from b (check-judged p))
   where
-    to : checkProfile p ≡ refused n i → Judged p (checkProfile p) → FirstBroken p n i
-    to e (inl w) = absurd (omega (arith, h, ap (λ (v : Verdict). v .number) (sym e ∙ w .1)))
-    to e (inr w) = subst (λ (v : Verdict). FirstBroken p (v .number) (v .place)) e w
+    to : checkProfile p ≡ v → Judged p (checkProfile p) → FirstBroken p v
+    to e (inl w) = absurd (omega (arith, h, ap (λ (u : Verdict). u .number) (sym e ∙ w .1)))
+    to e (inr w) = subst (FirstBroken p) e w
 
-    from : FirstBroken p n i → Judged p (checkProfile p) → checkProfile p ≡ refused n i
-    from b (inl w) = absurd (b .broken (w .0 n i))
+    from : FirstBroken p v → Judged p (checkProfile p) → checkProfile p ≡ v
+    from b (inl w) = absurd (b .broken (w .0 v))
     from b (inr w) =
-        let v = checkProfile p in
-        let s = same-rule (v .number) (v .place) n i (λ e. w .broken (b .before (v .number) (v .place) e)) (λ e. b .broken (w .before n i e)) in
-        named-so v n i (s .0) (s .1)
+        same-rule (checkProfile p) v (λ e. w .broken (b .before (checkProfile p) e)) (λ e. b .broken (w .before v e))
 
 -- a broken rule has a number
-pub broken-number : (p : Profile) (n i : ℕ) → FirstBroken p n i → 1 ≤ n
-broken-number p zero i b = absurd (b .broken (rule-0 p i))
-broken-number p (suc n) i b = omega arith
+pub broken-number : (p : Profile) (v : Verdict) → FirstBroken p v → 1 ≤ v .number
+broken-number p v b =
+    by-cases (eqb (v .number) 0)
+    (λ q. absurd (b .broken (rule-0 p v (eqb-true (v .number) 0 q))))
+    (λ q. omega (arith, eqb-false (v .number) 0 q))
 
 -- ---- what an accepted profile has
 
 pub accepted-field : (p : Profile) → checkProfile p ≡ accepted → p .field .present ≡ true
-accepted-field p e = accepted-exactly p .0 e 6 0 .field-given refl refl .0
+accepted-field p e = accepted-exactly p .0 e (refused 6 0) .field-given refl .0
 
 -- rule 7: its regions' lines follow one another
 pub accepted-ordered : (p : Profile) → checkProfile p ≡ accepted → Ordered (p .field)
 accepted-ordered p e =
-    let starts : (i : ℕ) → i < regionCount (p .field) → Starts (p .field) i = λ i. accepted-exactly p .0 e 7 i .fields .0 .region-order refl in
+    let starts : (i : ℕ) → i < regionCount (p .field) → Starts (p .field) i = λ i. accepted-exactly p .0 e (refused 7 i) .fields .0 .region-order i refl in
     let some = regions-some p (check-range p e) (accepted-field p e) in
     record {
       some = some;

@@ -152,7 +152,7 @@ numbered-at i m s a size =
     (record {
       given = lit≤ tt;
       length = lit≤ tt;
-      toggles = λ k h. (lit≤ tt, tt);
+      toggles = λ k h. (lit≤ tt, (lit≤ tt, tt));
       runs = (lit≤ tt, (lit≤ tt, (lit≤ tt, tt)));
     })
 

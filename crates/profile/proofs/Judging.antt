@@ -10,20 +10,21 @@ use lib.ListN.{getD}
 use lib.Dec.{eqb, lit≤}
 use borrow.Author.Tests.{not-true, not-false, eq-eqb, ne-eqb, lt-ltb, le-ltb}
 use Rattle.profile.specs.Lists.{all, chunks}
-use Rattle.profile.specs.Values.{accepted, refused}
+use Rattle.profile.specs.Values.{accepted, refused, refusedToggle, accepts}
 use Rattle.profile.specs.Geometry.{regionCount, gateOf, gateLines}
-use Rattle.profile.specs.Patterns.{rowOf, rowsOf, used}
+use Rattle.profile.specs.Patterns.{rowOf, rowsOf, used, inOrder, toggleFault}
 use Rattle.profile.specs.Rules.{
   Entry,
   rule,
   firstBroken,
   rowRight,
+  rowEntries,
+  toggleEntries,
   hasSecond,
   secondOf,
   secondRight,
   gateRight,
   orderEntries,
-  toggleEntries,
   regionEntries,
   lineEntries,
   gateEntries,
@@ -38,8 +39,8 @@ use Rattle.profile.specs.declared.Tables.{Tables}
 use Rattle.profile.specs.declared.Field.{Field}
 use Rattle.profile.specs.declared.Profile.{Profile}
 use Rattle.profile.specs.declared.Verdict.{Verdict}
-use Rattle.profile.proofs.Laws.{or-left, tested-no, tested-yes, all-one, chunks-more, chunks-add}
-use Rattle.profile.proofs.Entries.{Numbered, fine-then, broken-then, number-accepted, numbered-chunks}
+use Rattle.profile.proofs.Laws.{by-cases, or-left, tested-no, tested-yes, all-one, chunks-more, chunks-ext, chunks-add}
+use Rattle.profile.proofs.Entries.{Numbered, fine-then, broken-then, number-accepted, numbered-chunks, chunks-accept}
 use Rattle.profile.proofs.Checked.{judge-entries, numbered-at, numbered-lines}
 
 -- ---- one entry, and what follows it
@@ -116,7 +117,7 @@ module _ {n m i : ℕ} {f : ℕ → List Entry} (d : Fine n m f i) where
           ∙ ap (λ (j : ℕ). firstBroken (chunks j f)) k
 
       -- v as its rule says it
-      pub fine-refused : {number : ℕ} → v ≡ refused number i → 1 ≤ number → v ≡ firstBroken (chunks m f)
+      pub fine-refused : {w : Verdict} → v ≡ w → 1 ≤ w .number → v ≡ firstBroken (chunks m f)
       fine-refused r p = fine-stop (λ z. absurd (omega (arith, number-of r z)))
 
 -- 15 on a gate line of the given length: what `gateEntries` is at the field's gate line
@@ -129,39 +130,53 @@ gates-length t e f = f ∙ ap (λ (m : ℕ). firstBroken (chunks 5 (gatesOn t m)
 pub one-test : (b : Bool) {c : Bool} → b ≡ c → all (b ∷ []) ≡ c
 one-test b e = all-one b ∙ e
 
--- entries of one number and place have one verdict
-same-verdict : (n at : ℕ) (bs : List Bool) → firstBroken (map (rule n at) bs) ≡ cond (all bs) accepted (refused n at)
-unfolding firstBroken all
-same-verdict n at [] = refl
-same-verdict n at (true ∷ bs) = same-verdict n at bs
-same-verdict n at (false ∷ bs) = refl
+-- ---- 10 at one region
 
--- ---- 10 at one region, and what follows it
+module _ (i : ℕ) (uses : ℕ → Bool) (row : List ℕ) (k : ℕ) where
+  -- an output's verdict by its fault
+  row-verdict : firstBroken (rowEntries i uses row k) ≡ cond (rowRight uses row) accepted (refusedToggle i (k + 1) (toggleFault uses row))
+  unfolding firstBroken rowRight toggleFault
+  row-verdict = two-tests (inOrder uses row 2) (inOrder uses row 3)
+    where
+      two-tests : (b c : Bool)
+          → cond b (cond c accepted (refusedToggle i (k + 1) 3)) (refusedToggle i (k + 1) 2)
+          ≡ cond (eqb (cond b (cond c 0 3) 2) 0) accepted (refusedToggle i (k + 1) (cond b (cond c 0 3) 2))
+      two-tests true true = refl
+      two-tests true false = refl
+      two-tests false c = refl
 
--- the six rows of a pattern's toggles, each tested
-pub rows-tests : {r : Bool} {rows : List (List ℕ)} (uses : ℕ → Bool) (l : List ℕ) → rows ≡ rowsOf l
-    → r ≡ all (chunks 6 (λ k. rowRight uses (getD rows k []) ∷ [])) → r ≡ all (chunks 6 (λ k. rowRight uses (rowOf l k) ∷ []))
+  module _ {fault : ℕ} (e : fault ≡ toggleFault uses row) where
+    pub row-broken : (fault ≡ 0 → ⊥) → {v : Verdict} → v ≡ refusedToggle i (k + 1) fault → v ≡ firstBroken (rowEntries i uses row k)
+    unfolding rowRight
+    row-broken n f = f ∙ sym (row-verdict ∙ rw (← e, ne-eqb fault 0 n))
+
+    pub row-fine : fault ≡ 0 → accepted ≡ firstBroken (rowEntries i uses row k)
+    unfolding rowRight
+    row-fine z = sym (row-verdict ∙ rw (← e, eq-eqb fault 0 z))
+
+  row-accepts : accepts (firstBroken (rowEntries i uses row k)) ≡ rowRight uses row
+  row-accepts = by-cases (rowRight uses row) (λ h. rw (row-verdict, h)) (λ h. rw (row-verdict, h))
+
+pub numbered-rows : (i : ℕ) (uses : ℕ → Bool) (row : ℕ → List ℕ) (k : ℕ) → Numbered (rowEntries i uses (row k) k)
+numbered-rows i uses row k = (lit≤ tt, (lit≤ tt, tt))
+
+-- the six rows of a pattern's toggles
+pub rows-entries : {v : Verdict} {rows : List (List ℕ)} (i : ℕ) (uses : ℕ → Bool) (l : List ℕ) → rows ≡ rowsOf l
+    → v ≡ firstBroken (chunks 6 (λ k. rowEntries i uses (getD rows k []) k)) → v ≡ firstBroken (chunks 6 (λ k. rowEntries i uses (rowOf l k) k))
 unfolding chunks
-rows-tests uses l e f = f ∙ rw e
+rows-entries i uses l e f = f ∙ rw e
 
-module _ (i : ℕ) (m : Mode) (a : Pattern) where
-  abbrev Toggles : Bool
-  Toggles = all (chunks 6 (λ k. rowRight (used m (a .length)) (rowOf (a .toggles) k) ∷ []))
+-- past toggles that are in order, what follows decides
+pub toggles-on : (i : ℕ) (m : Mode) (a : Pattern) {v : Verdict} → v ≡ firstBroken (chunks 6 (toggleEntries i m a)) → v .number ≡ 0
+    → (es : List Entry) {w : Verdict} → w ≡ firstBroken es → w ≡ firstBroken (chunks 6 (toggleEntries i m a) ++ es)
+toggles-on i m a e z es = part-on _ es e z (numbered-chunks 6 _ (numbered-rows i (used m (a .length)) (rowOf (a .toggles))))
 
-  abbrev toggles : List Entry
-  toggles = chunks 6 (toggleEntries i m a)
-
-  toggles-verdict : firstBroken toggles ≡ cond Toggles accepted (refused 10 i)
-  unfolding chunks
-  toggles-verdict = same-verdict 10 i (chunks 6 (λ k. rowRight (used m (a .length)) (rowOf (a .toggles) k) ∷ []))
-
-  pub toggles-broken : Toggles ≡ false → (es : List Entry) {v : Verdict} → v ≡ refused 10 i → v ≡ firstBroken (toggles ++ es)
-  toggles-broken e es f = f ∙ part-broken toggles es (sym (toggles-verdict ∙ rw e)) (omega arith)
-
-  pub toggles-on : Toggles ≡ true → (es : List Entry) {v : Verdict} → v ≡ firstBroken es → v ≡ firstBroken (toggles ++ es)
-  toggles-on e es =
-      let fine : accepted ≡ firstBroken toggles = sym (toggles-verdict ∙ rw e) in
-      part-on toggles es fine refl (numbered-chunks 6 _ (λ k. (lit≤ tt, tt)))
+-- "its toggles obey 10": no entry of them is broken exactly where each row is right
+pub rows-right : {v : Verdict} (i : ℕ) (uses : ℕ → Bool) (l : List ℕ) → v ≡ firstBroken (chunks 6 (λ k. rowEntries i uses (rowOf l k) k))
+    → accepts v ≡ all (chunks 6 (λ k. rowRight uses (rowOf l k) ∷ []))
+rows-right i uses l e =
+    ap accepts e ∙ chunks-accept 6 _ (numbered-rows i uses (rowOf l))
+    ∙ ap all (chunks-ext 6 _ _ (λ k h. ap (λ (b : Bool). b ∷ []) (row-accepts i uses (rowOf l k) k)))
 
 -- ---- 14: one gate line
 

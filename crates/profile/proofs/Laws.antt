@@ -1,6 +1,6 @@
 -- Laws that are cited everywhere: choices by tests, `all`, `Each`, `chunks`, `sum`, `lastStart`, `over` and rests, each over any index, number or list.
 -- Assumes nothing.
-use mathlib.Core.Path.{_≡_, refl, sym, ap, _∙_}
+use mathlib.Core.Path.{_≡_, refl, sym, ap, subst, _∙_}
 use mathlib.Core.Bool.{Bool, true, false, cond, not, _&&_, _||_, false≢true}
 use mathlib.Core.Logic.{_⊎_, inl, inr}
 use mathlib.Core.List.{List, [], _∷_, _++_, map, append-assoc, append-nil}
@@ -25,6 +25,11 @@ cond-case P false x y f g = g refl
 pub by-cases {ℓ} : {P : Type ℓ} (b : Bool) → (b ≡ true → P) → (b ≡ false → P) → P
 by-cases true f g = f refl
 by-cases false f g = g refl
+
+-- of 2 or 3, by its two cases
+pub two-or-three : (P : ℕ → Type 0) → P 2 → P 3 → (j : ℕ) → (j ≡ 2) ⊎ (j ≡ 3) → P j
+two-or-three P a b j (inl e) = subst P (sym e) a
+two-or-three P a b j (inr e) = subst P (sym e) b
 
 pub and-left : (a b : Bool) → a && b ≡ true → a ≡ true
 and-left true b e = refl

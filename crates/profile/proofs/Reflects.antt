@@ -11,7 +11,7 @@ use lib.ListN.{getD}
 use lib.Dec.{ltb, leb, eqb}
 use borrow.Author.Tests.{ltb-true, leb-true, leb-false, eqb-true, eqb-false, lt-ltb, le-leb, eq-eqb, ne-eqb, not-true}
 use Rattle.profile.specs.Lists.{Each, all, chunks}
-use Rattle.profile.specs.Patterns.{rowOf, isPlain, not4095, used, follows, toggleFault, usedOr0, highestIn, highestUsed}
+use Rattle.profile.specs.Patterns.{rowOf, isPlain, not4095, used, inOrder, toggleFault, usedOr0, highestIn, highestUsed}
 use Rattle.profile.specs.Geometry.{regionAt, regionOf, sequenceAt, patternAt, lineLength, hasPixel, repetitions}
 use Rattle.profile.specs.Rules.{
   rowRight,
@@ -25,7 +25,7 @@ use Rattle.profile.specs.Rules.{
   comesBefore,
   shutterRight,
 }
-use Rattle.profile.specs.Obeys.{Not4095, Used, Rises, Masks, Highest, Counts, Ends, Seconds, Exists, Before, Pulses, Suppresses, Shuts}
+use Rattle.profile.specs.Obeys.{Not4095, Used, Rises, InOrder, Masks, Highest, Counts, Ends, Seconds, Exists, Before, Pulses, Suppresses, Shuts}
 use Rattle.profile.specs.declared.Mode.{Mode}
 use Rattle.profile.specs.declared.Mode.the-variants.{Plain, Sweep, Multiplier}
 use Rattle.profile.specs.declared.Sequence.{Sequence}
@@ -35,7 +35,7 @@ use Rattle.profile.specs.declared.Subck.{Subck}
 use Rattle.profile.specs.declared.Shutter.{Shutter}
 use Rattle.profile.specs.declared.Tables.{Tables}
 use Rattle.profile.specs.declared.Field.{Field}
-use Rattle.profile.proofs.Laws.{by-cases, and-left, and-right, and-intro, where-true, where-intro, or-cases, or-left, or-right, all-cons, ones-at, ones-all}
+use Rattle.profile.proofs.Laws.{two-or-three, by-cases, and-left, and-right, and-intro, where-true, where-intro, or-cases, or-left, or-right, all-cons, ones-at, ones-all}
 
 -- ---- comparisons and their joining
 
@@ -107,30 +107,35 @@ no-fault true true e = (refl, refl)
 no-fault true false e = absurd (false≢true e)
 no-fault false c e = absurd (false≢true e)
 
+-- toggles 2 and 3 in order are all in order
+rises : (Uses : ℕ → Type 0) (row : List ℕ) → InOrder Uses row 2 → InOrder Uses row 3 → Rises Uses row
+rises Uses row f g i zero h l = absurd (omega arith)
+rises Uses row f g zero (suc zero) h l = f
+rises Uses row f g (suc i) (suc zero) h l = absurd (omega arith)
+rises Uses row f g zero (suc (suc zero)) h l = λ u. let w = g u in let v = f (w .0) in (v .0, omega arith)
+rises Uses row f g (suc zero) (suc (suc zero)) h l = g
+rises Uses row f g (suc (suc i)) (suc (suc zero)) h l = absurd (omega arith)
+rises Uses row f g i (suc (suc (suc j))) h l = absurd (omega arith)
+
+-- so rule 10 at each toggle is "used toggles come first and rise strictly"
+pub toggles-rise : (Uses : ℕ → Type 0) (row : List ℕ) → ((j : ℕ) → (j ≡ 2) ⊎ (j ≡ 3) → InOrder Uses row j) ↔ Rises Uses row
+toggles-rise Uses row = (
+  (λ f. rises Uses row (f 2 (inl refl)) (f 3 (inr refl))),
+  λ r. two-or-three (InOrder Uses row) (r 0 1 (omega arith) (omega arith)) (r 1 2 (omega arith) (omega arith)),
+)
+
 module _ (uses : ℕ → Bool) (Uses : ℕ → Type 0) (says : (x : ℕ) → Says (uses x) (Uses x)) (row : List ℕ) where
   abbrev at : ℕ → ℕ
   at j = getD row j 0
 
-  abbrev Next : ℕ → Type 0
-  Next j = Uses (at (suc j)) → Uses (at j) × (at j < at (suc j))
-
-  next : (j : ℕ) → Says (follows uses (at j) (at (suc j))) (Next j)
-  next j = says-where (says (at (suc j))) (says-and (says (at j)) (says-lt (at j) (at (suc j))))
-
-  rises : Next 0 → Next 1 → Rises Uses row
-  rises f g i zero h l = absurd (omega arith)
-  rises f g zero (suc zero) h l = f
-  rises f g (suc i) (suc zero) h l = absurd (omega arith)
-  rises f g zero (suc (suc zero)) h l = λ u. let w = g u in let v = f (w .0) in (v .0, omega arith)
-  rises f g (suc zero) (suc (suc zero)) h l = g
-  rises f g (suc (suc i)) (suc (suc zero)) h l = absurd (omega arith)
-  rises f g i (suc (suc (suc j))) h l = absurd (omega arith)
+  pub says-toggle : (j : ℕ) → Says (inOrder uses row j) (InOrder Uses row j)
+  says-toggle j = says-where (says (at (j - 1))) (says-and (says (at (j - 2))) (says-lt (at (j - 2)) (at (j - 1))))
 
   pub says-row : Says (rowRight uses row) (Rises Uses row)
   unfolding rowRight toggleFault
   says-row = (
-    (λ e. let w = no-fault _ _ e in rises (next 0 .0 (w .0)) (next 1 .0 (w .1))),
-    λ r. rw (next 0 .1 (r 0 1 (omega arith) (omega arith)), next 1 .1 (r 1 2 (omega arith) (omega arith))),
+    (λ e. let w = no-fault _ _ e in rises Uses row (says-toggle 2 .0 (w .0)) (says-toggle 3 .0 (w .1))),
+    λ r. let f = toggles-rise Uses row .1 r in rw (says-toggle 2 .1 (f 2 (inl refl)), says-toggle 3 .1 (f 3 (inr refl))),
   )
 
 -- ---- 11: masks

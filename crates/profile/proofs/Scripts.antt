@@ -381,11 +381,11 @@ records-fault : (rest : List ℕ) (at n : ℕ) (p : Profile) → Fault rest n �
 records-fault [] at n p f = absurd (omega (arith, fault-some [] n f .0))
 records-fault (x ∷ xs) at n p f = records-stop x xs at n p (fault-stops (x ∷ xs) n p f)
 
-refused-empty : (n at : ℕ) (p : Profile) → 1 ≤ n → readAnswer (refused n at) p ≡ unread n at
-refused-empty n at p h = rw (ne-eqb n 0 (omega arith))
+refused-empty : (v : Verdict) (p : Profile) → 1 ≤ v .number → readAnswer v p ≡ unread v
+refused-empty v p h = rw (ne-eqb (v .number) 0 (omega arith))
 
-judged-refused : (n at : ℕ) → 1 ≤ n → judged (unread n at) ≡ unread n at
-judged-refused n at h = rw (ne-eqb n 0 (omega arith))
+judged-refused : (v : Verdict) → 1 ≤ v .number → judged (unread v) ≡ unread v
+judged-refused v h = rw (ne-eqb (v .number) 0 (omega arith))
 
 -- a script that is not too long
 short-read : (s : List ℕ) → length s ≤ mostBytes → readScript s ≡ judged (records 0 0 s emptyProfile)
@@ -410,13 +410,13 @@ reads-one s b a (stopped rs rest n h e f) =
     let some = fault-some rest n f .1 in
     short-read s h
     ∙ ap (λ (l : List ℕ). judged (records 0 0 l emptyProfile)) e
-    ∙ ap judged (records-rest rs rest ∙ records-fault rest at n (profileOf rs) f ∙ refused-empty n at (profileOf rs) some)
-    ∙ judged-refused n at some
-reads-one s b a (broken rs n i h e f) =
-    let some = broken-number (profileOf rs) n i f in
+    ∙ ap judged (records-rest rs rest ∙ records-fault rest at n (profileOf rs) f ∙ refused-empty (refused n at) (profileOf rs) some)
+    ∙ judged-refused (refused n at) some
+reads-one s b a (broken rs v h e f) =
+    let some = broken-number (profileOf rs) v f in
     whole-read s b rs h e
-    ∙ ap (λ (v : Verdict). readAnswer v (profileOf rs)) (refused-exactly (profileOf rs) n i some .1 f)
-    ∙ refused-empty n i (profileOf rs) some
+    ∙ ap (λ (w : Verdict). readAnswer w (profileOf rs)) (refused-exactly (profileOf rs) v some .1 f)
+    ∙ refused-empty v (profileOf rs) some
 reads-one s b a (obeyed rs h e f) =
     whole-read s b rs h e ∙ ap (λ (v : Verdict). readAnswer v (profileOf rs)) (accepted-exactly (profileOf rs) .1 f)
 
@@ -426,19 +426,19 @@ reads-whole : (s : List ℕ) (rs : List Record) → length s ≤ mostBytes → s
 reads-whole s rs h e (inl w) = (taken (profileOf rs), obeyed rs h e (w .0))
 reads-whole s rs h e (inr w) =
     let v = checkProfile (profileOf rs) in
-    (unread (v .number) (v .place), broken rs (v .number) (v .place) h e w)
+    (unread v, broken rs v h e w)
 
 reads-end : (s : List ℕ) → length s ≤ mostBytes → (w : Ended s) → (w .rest ≡ []) ⊎ Faulty (w .rest) → (a : ReadAnswer) × Reads s a
 reads-end s h w (inl z) =
     reads-whole s (w .all-of) h (w .there ∙ ap (λ (l : List ℕ). scriptOf (w .all-of) ++ l) z ∙ append-nil (scriptOf (w .all-of)))
     (check-judged (profileOf (w .all-of)))
-reads-end s h w (inr f) = (unread (f .0) (length (scriptOf (w .all-of))), stopped (w .all-of) (w .rest) (f .0) h (w .there) (f .1))
+reads-end s h w (inr f) = (unread (refused (f .0) (length (scriptOf (w .all-of)))), stopped (w .all-of) (w .rest) (f .0) h (w .there) (f .1))
 
 reads-some : (s : List ℕ) → Bytes s → (a : ReadAnswer) × Reads s a
 reads-some s b =
     by-cases (leb (length s) mostBytes)
     (λ h. let w = ended (length s) s (omega arith) b in reads-end s (leb-true (length s) mostBytes h) w (w .ends))
-    (λ h. (unread 1 0, too-long (leb-false (length s) mostBytes h)))
+    (λ h. (unread (refused 1 0), too-long (leb-false (length s) mostBytes h)))
 
 -- reading answers exactly what the script says: too long; the first fault after whole records; the first broken rule of what the records give; or
 -- that, where none is broken

@@ -9,7 +9,7 @@ use native.Mathlib.Omega.{arith}
 use borrow.Author.Tests.{leb-true}
 use lib.ListN.{length, getD, length-append}
 use Rattle.profile.specs.Lists.{chunks}
-use Rattle.profile.specs.Values.{emptySequence, emptyGate, emptyShutter, accepted}
+use Rattle.profile.specs.Values.{emptySequence, emptyGate, emptyShutter, accepted, refused}
 use Rattle.profile.specs.Geometry.{regionAt}
 use Rattle.profile.specs.Ranges.{regionRange}
 use Rattle.profile.specs.Rules.{checkProfile}
@@ -102,7 +102,7 @@ script-low p e =
     omega (
       arith,
       length-script p,
-      sequence-written (t .sequences) (regionAt f 0 .sequence) (omega arith) (accepted-exactly p .0 e 8 0 .fields .0 .sequence-given refl (omega arith)),
+      sequence-written (t .sequences) (regionAt f 0 .sequence) (omega arith) (accepted-exactly p .0 e (refused 8 0) .fields .0 .sequence-given 0 refl (omega arith)),
       field-written f h c,
     )
 

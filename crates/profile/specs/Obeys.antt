@@ -1,17 +1,17 @@
--- The ranges and the rules once more, as propositions in document 01's own words: its table "Numbers of refusal", 5 to 17, as one row a number,
--- with its places and its sentence, and the order of the rows. That a profile is accepted exactly where every row holds, and is refused with
--- the number and the place of the first that does not, is a theorem (proofs/Accepted.antt), so that no rule can be missing from the list of
--- tests (specs/Rules.antt), and none can have another number, place or turn there.
+-- The ranges and the rules once more, as propositions in document 01's own words (10 in 02's): its table "Numbers of refusal", 5 to 17, as one row
+-- a number, with the verdicts that name it and its sentence, and the order of the verdicts. That a profile is accepted exactly where every row holds, and
+-- is refused with the verdict of the first that does not, is a theorem (proofs/Accepted.antt), so that no rule can be missing from the list of
+-- tests (specs/Rules.antt), and none can have another number, place, output, toggle or turn there.
 -- Assumes nothing.
 use Prim.Native.Nat.{ℕ, _+_, _-_, _*_, _/_, _%_, _^_, _≤_, _<_}
 use mathlib.Core.Path.{_≡_}
 use mathlib.Core.Logic.{_⊎_}
-use mathlib.Core.List.{List}
+use mathlib.Core.List.{List, [], _∷_}
 use mathlib.Core.Bool.{Bool, true, false, cond, _&&_}
 use lib.ListN.{getD}
 use lib.Dec.{ltb, leb}
 use Rattle.profile.specs.Lists.{Each}
-use Rattle.profile.specs.Values.{emptyRegion, emptySequence, emptyGate, emptySubck, emptyShutter}
+use Rattle.profile.specs.Values.{emptyRegion, emptySequence, emptyGate, emptySubck, emptyShutter, refused}
 use Rattle.profile.specs.Patterns.{halfOf, rowOf}
 use Rattle.profile.specs.Geometry.{
   regionCount,
@@ -40,6 +40,7 @@ use Rattle.profile.specs.declared.Shutter.{Shutter}
 use Rattle.profile.specs.declared.Tables.{Tables}
 use Rattle.profile.specs.declared.Field.{Field}
 use Rattle.profile.specs.declared.Profile.{Profile}
+use Rattle.profile.specs.declared.Verdict.{Verdict}
 
 -- ---- ranges: what a record can carry; an absent item is all zeros
 
@@ -135,6 +136,10 @@ abbrev pub Rises : (ℕ → Type 0) → List ℕ → Type 0
 Rises Uses row =
     (i j : ℕ) → i < j → j < 3 → Uses (getD row j 0) → Uses (getD row i 0) × (getD row i 0 < getD row j 0)
 
+-- and of one toggle, 2 or 3, of the three: it is not "after an unused one, or not above the one before"
+abbrev pub InOrder : (ℕ → Type 0) → List ℕ → ℕ → Type 0
+InOrder Uses row j = Uses (getD row (j - 1) 0) → Uses (getD row (j - 2) 0) × (getD row (j - 2) 0 < getD row (j - 1) 0)
+
 -- "a mask bit turns on its pair. Each pair turned on has freeze below resume; with both, resume 1 is at most freeze 2. A mask is 0 in sweep
 -- and multiplier."
 abbrev pub PairOn : ℕ → ℕ → Type 0
@@ -205,38 +210,49 @@ Pulses g length = g .present ≡ true → g .on ≡ 1 → (g .toggle1 < g .toggl
 abbrev pub Suppresses : Subck → Type 0
 Suppresses s = s .present ≡ true → (s .toggle1 < s .toggle2) × (1 ≤ s .suppressed)
 
--- rule n of a field holds at place i: a row a number, with the places that it has and what it says there; no other number and place says
--- anything
-pub record FieldRule (t : Tables) (f : Field) (n i : ℕ) : Type 0 where
-  pub region-order : n ≡ 7 → i < regionCount f → Starts f i
-  pub sequence-given : n ≡ 8 → i < regionCount f → sequenceAt t f i .present ≡ true
-  pub pattern-length : n ≡ 9 → i < regionCount f → patternAt t f i .length ≡ 0 → ⊥
-  pub toggle-order : n ≡ 10 → i < regionCount f → (k : ℕ) → k < 6
-      → Rises (Used (regionAt f i .mode) (patternAt t f i .length)) (rowOf (patternAt t f i .toggles) k)
-  pub mask : n ≡ 11 → i < regionCount f → Masks (regionAt f i .mode) (sequenceAt t f i .mask) (patternAt t f i)
-  pub repetitions : n ≡ 12 → i < regionCount f → Counts (regionAt f i .mode) (sequenceAt t f i) (patternAt t f i)
-  pub run-ends : n ≡ 13 → i < regionCount f → Ends (regionAt f i .mode) (sequenceAt t f i) (patternAt t f i) (regionSize t f i)
-  pub gate-line : n ≡ 14 → i ≡ 0 → Transfers t f
-  pub gate-pulse : n ≡ 15 → i < 5 → Each (λ g. Pulses (gateOf t i) (lineLength t f g)) (gateLines f)
-  pub subck : n ≡ 16 → i ≡ 0 → Suppresses (t .subck)
-  pub shutter : n ≡ 17 → i < 2 → shutterOf t i .present ≡ true → Shuts t f (shutterOf t i)
+-- the rule of a field that verdict v names holds: a row a number, with the verdicts that name it and what it says there; no other verdict
+-- names anything
+pub record FieldRule (t : Tables) (f : Field) (v : Verdict) : Type 0 where
+  pub region-order : (i : ℕ) → v ≡ refused 7 i → i < regionCount f → Starts f i
+  pub sequence-given : (i : ℕ) → v ≡ refused 8 i → i < regionCount f → sequenceAt t f i .present ≡ true
+  pub pattern-length : (i : ℕ) → v ≡ refused 9 i → i < regionCount f → patternAt t f i .length ≡ 0 → ⊥
+  pub toggle-order : (i k j : ℕ) → v ≡ record { number = 10; place = i; output = k + 1; toggle = j } → i < regionCount f → k < 6
+      → (j ≡ 2) ⊎ (j ≡ 3)
+      → InOrder (Used (regionAt f i .mode) (patternAt t f i .length)) (rowOf (patternAt t f i .toggles) k) j
+  pub mask : (i : ℕ) → v ≡ refused 11 i → i < regionCount f → Masks (regionAt f i .mode) (sequenceAt t f i .mask) (patternAt t f i)
+  pub repetitions : (i : ℕ) → v ≡ refused 12 i → i < regionCount f → Counts (regionAt f i .mode) (sequenceAt t f i) (patternAt t f i)
+  pub run-ends : (i : ℕ) → v ≡ refused 13 i → i < regionCount f
+      → Ends (regionAt f i .mode) (sequenceAt t f i) (patternAt t f i) (regionSize t f i)
+  pub gate-line : v ≡ refused 14 0 → Transfers t f
+  pub gate-pulse : (k : ℕ) → v ≡ refused 15 k → k < 5 → Each (λ g. Pulses (gateOf t k) (lineLength t f g)) (gateLines f)
+  pub subck : v ≡ refused 16 0 → Suppresses (t .subck)
+  pub shutter : (k : ℕ) → v ≡ refused 17 k → k < 2 → shutterOf t k .present ≡ true → Shuts t f (shutterOf t k)
 
--- rule n of a profile holds at place i
-pub record Rule (p : Profile) (n i : ℕ) : Type 0 where
-  pub values : n ≡ 5 → i ≡ 0 → Ranged p
-  pub field-given : n ≡ 6 → i ≡ 0 → Each (λ f. f .present ≡ true) (fieldsOf p)
-  pub fields : Each (λ f. FieldRule (p .tables) f n i) (fieldsOf p)
+-- the rule of a profile that verdict v names holds
+pub record Rule (p : Profile) (v : Verdict) : Type 0 where
+  pub values : v ≡ refused 5 0 → Ranged p
+  pub field-given : v ≡ refused 6 0 → Each (λ f. f .present ≡ true) (fieldsOf p)
+  pub fields : Each (λ f. FieldRule (p .tables) f v) (fieldsOf p)
 
--- "then 6; then 7 for all regions; then, region by region, 8 to 13; then 14; 15 by gate; 16; 17 (MSHUT first)": by turn, then by place, then
--- by number, where 8 to 13 have one turn
+-- "then 6; then 7 for all regions; then, region by region, 8 to 13; then 14; 15 by gate; 16; 17 (MSHUT first)": by turn, where 8 to 13 have one,
+-- then by place, then by number; and of 10 "the lowest output first", then its lowest toggle
 abbrev pub turn : ℕ → ℕ
 turn n = cond (leb 8 n && leb n 13) 8 n
 
--- rule m at place j comes before rule n at place i
-abbrev pub Earlier : ℕ → ℕ → ℕ → ℕ → Type 0
-Earlier m j n i = (turn m < turn n) ⊎ ((turn m ≡ turn n) × Before j m i n)
+abbrev pub rank : Verdict → List ℕ
+rank v = turn (v .number) ∷ v .place ∷ v .number ∷ v .output ∷ v .toggle ∷ []
 
--- rule n at place i is the first that does not hold
-pub record FirstBroken (p : Profile) (n i : ℕ) : Type 0 where
-  pub broken : Rule p n i → ⊥
-  pub before : (m j : ℕ) → Earlier m j n i → Rule p m j
+-- one list is ahead of another of its length: where they first differ, it has the lower number
+abbrev pub Ahead : List ℕ → List ℕ → Type 0
+Ahead [] ys = ⊥
+Ahead (x ∷ xs) [] = ⊥
+Ahead (x ∷ xs) (y ∷ ys) = (x < y) ⊎ ((x ≡ y) × Ahead xs ys)
+
+-- the rule that w names comes before the one that v names
+abbrev pub Earlier : Verdict → Verdict → Type 0
+Earlier w v = Ahead (rank w) (rank v)
+
+-- the rule that v names is the first that does not hold
+pub record FirstBroken (p : Profile) (v : Verdict) : Type 0 where
+  pub broken : Rule p v → ⊥
+  pub before : (w : Verdict) → Earlier w v → Rule p w

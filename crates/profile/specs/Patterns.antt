@@ -1,6 +1,6 @@
 -- A pattern out of the half registers, which of its toggles are used by mode, their order, and the highest of them.
 -- Assumes nothing.
-use Prim.Native.Nat.{ℕ, zero, suc, _+_, _*_, max}
+use Prim.Native.Nat.{ℕ, zero, suc, _+_, _-_, _*_, max}
 use mathlib.Core.List.{List, [], _∷_}
 use mathlib.Core.Bool.{Bool, true, false, cond, not, _&&_, _||_}
 use lib.ListN.{getD}
@@ -60,10 +60,13 @@ used Multiplier length x = not4095 x
 abbrev pub follows : (ℕ → Bool) → ℕ → ℕ → Bool
 follows uses x y = not (uses y) || uses x && ltb x y
 
+-- toggle j, 2 or 3, of an output's three is in order: it may follow the one before
+abbrev pub inOrder : (ℕ → Bool) → List ℕ → ℕ → Bool
+inOrder uses row j = follows uses (getD row (j - 2) 0) (getD row (j - 1) 0)
+
 -- "For each output, used toggles come first and rise strictly": 0, or the first used toggle out of order, 2 or 3
 unfoldable pub toggleFault : (ℕ → Bool) → List ℕ → ℕ
-toggleFault uses row =
-    cond (follows uses (getD row 0 0) (getD row 1 0)) (cond (follows uses (getD row 1 0) (getD row 2 0)) 0 3) 2
+toggleFault uses row = cond (inOrder uses row 2) (cond (inOrder uses row 3) 0 3) 2
 
 -- a toggle that multiplier uses; an unused one counts as 0
 abbrev pub usedOr0 : ℕ → ℕ

@@ -26,6 +26,7 @@ use Rattle.profile.specs.Script.{
   bodyOf,
 }
 use Rattle.profile.specs.declared.Profile.{Profile}
+use Rattle.profile.specs.declared.Verdict.{Verdict}
 use Rattle.profile.specs.declared.ReadAnswer.{ReadAnswer}
 
 -- the kinds, and the body lengths of each
@@ -116,17 +117,17 @@ pub data Fault (s : List ℕ) : ℕ → Type 0 where
   body-cut : 4 ≤ length s → Allowed (numberAt s 2) (numberAt s 0) → length s < 4 + numberAt s 0 → Fault s 2
   values-out : Allowed (numberAt s 2) (numberAt s 0) → 4 + numberAt s 0 ≤ length s → (Fits (bodyOf s) (numberAt s 2) → ⊥) → Fault s 5
 
--- a read that is refused gives its number, its place and the empty profile
-abbrev pub unread : ℕ → ℕ → ReadAnswer
-unread number place = record { verdict = refused number place; profile = emptyProfile }
+-- a read that is refused gives its verdict and the empty profile
+abbrev pub unread : Verdict → ReadAnswer
+unread v = record { verdict = v; profile = emptyProfile }
 
 abbrev pub taken : Profile → ReadAnswer
 taken p = record { verdict = accepted; profile = p }
 
 -- what reading script s answers: "1; then record by record ..; then 6" and on, by the first broken rule of the profile that its records give
 pub data Reads (s : List ℕ) : ReadAnswer → Type 0 where
-  too-long : mostBytes < length s → Reads s (unread 1 0)
+  too-long : mostBytes < length s → Reads s (unread (refused 1 0))
   stopped : (rs : List Record) (rest : List ℕ) (n : ℕ) → length s ≤ mostBytes → s ≡ scriptOf rs ++ rest → Fault rest n
-      → Reads s (unread n (length (scriptOf rs)))
-  broken : (rs : List Record) (n i : ℕ) → length s ≤ mostBytes → s ≡ scriptOf rs → FirstBroken (profileOf rs) n i → Reads s (unread n i)
-  obeyed : (rs : List Record) → length s ≤ mostBytes → s ≡ scriptOf rs → ((n i : ℕ) → Rule (profileOf rs) n i) → Reads s (taken (profileOf rs))
+      → Reads s (unread (refused n (length (scriptOf rs))))
+  broken : (rs : List Record) (v : Verdict) → length s ≤ mostBytes → s ≡ scriptOf rs → FirstBroken (profileOf rs) v → Reads s (unread v)
+  obeyed : (rs : List Record) → length s ≤ mostBytes → s ≡ scriptOf rs → ((v : Verdict) → Rule (profileOf rs) v) → Reads s (taken (profileOf rs))

@@ -5,8 +5,8 @@ use mathlib.Core.List.{List, [], _∷_, _++_, map, flatMap}
 use mathlib.Core.Bool.{Bool, true, cond, not, _&&_, _||_}
 use lib.Dec.{ltb, leb, eqb}
 use Rattle.profile.specs.Lists.{all, chunks}
-use Rattle.profile.specs.Values.{accepted, refused}
-use Rattle.profile.specs.Patterns.{patternOf, rowOf, isPlain, not4095, used, toggleFault, highestUsed}
+use Rattle.profile.specs.Values.{accepted, refused, refusedToggle}
+use Rattle.profile.specs.Patterns.{patternOf, rowOf, isPlain, not4095, used, inOrder, toggleFault, highestUsed}
 use Rattle.profile.specs.Geometry.{
   regionCount,
   regionAt,
@@ -54,7 +54,7 @@ startsRight f i =
     ltb (firstLine f i) (f .lines)
     && cond (eqb i 0) (eqb (firstLine f i) 0) (ltb (firstLine f (i - 1)) (firstLine f i))
 
--- 10: the toggles of one output
+-- all toggles of one output, in the order of 10: what 14 asks of each output of a second pattern
 unfoldable pub rowRight : (ℕ → Bool) → List ℕ → Bool
 rowRight uses row = eqb (toggleFault uses row) 0
 
@@ -137,9 +137,18 @@ shutterRight t f s =
 abbrev pub orderEntries : Field → ℕ → List Entry
 orderEntries f i = rule 7 i (startsRight f i) ∷ []
 
--- 10 of region i, an entry an output
+-- 10 of region i at toggle j of output k, V1 being output 0, whose three toggles are a row; where it does not hold, the output, counted from 1,
+-- and the toggle are answered with it
+abbrev pub toggleRule : ℕ → (ℕ → Bool) → List ℕ → ℕ → ℕ → Entry
+toggleRule i uses row k j = record { verdict = refusedToggle i (k + 1) j; holds = inOrder uses row j }
+
+-- 10 of one output: its second toggle, then its third
+abbrev pub rowEntries : ℕ → (ℕ → Bool) → List ℕ → ℕ → List Entry
+rowEntries i uses row k = toggleRule i uses row k 2 ∷ toggleRule i uses row k 3 ∷ []
+
+-- "the lowest output first"
 abbrev pub toggleEntries : ℕ → Mode → Pattern → ℕ → List Entry
-toggleEntries i m a k = rule 10 i (rowRight (used m (a .length)) (rowOf (a .toggles) k)) ∷ []
+toggleEntries i m a k = rowEntries i (used m (a .length)) (rowOf (a .toggles) k) k
 
 -- 11 to 13 of region i
 abbrev pub runEntries : ℕ → Mode → Sequence → Pattern → ℕ → List Entry

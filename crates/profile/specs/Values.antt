@@ -1,7 +1,8 @@
 -- The numbers of the modes, the empty profile ("nothing present, all zeros"), verdicts and the answer of a read.
 -- Assumes nothing.
-use Prim.Native.Nat.{ℕ}
+use Prim.Native.Nat.{ℕ, _≤_}
 use mathlib.Core.Path.{_≡_}
+use mathlib.Core.Logic.{_⊎_}
 use mathlib.Core.List.{List}
 use mathlib.Core.Bool.{Bool, false, cond}
 use lib.ListN.{length, replicate}
@@ -97,10 +98,20 @@ pub record Sized (p : Profile) : Type 0 where
   pub regions : length (p .field .regions) ≡ 7
 
 abbrev pub accepted : Verdict
-accepted = record { number = 0; place = 0 }
+accepted = record { number = 0; place = 0; output = 0; toggle = 0 }
 
 abbrev pub refused : ℕ → ℕ → Verdict
-refused n at = record { number = n; place = at }
+refused n at = record { number = n; place = at; output = 0; toggle = 0 }
+
+-- refusal 10 also names an output, 1 to 6, and the toggle of it that is out of order, 2 or 3
+abbrev pub refusedToggle : ℕ → ℕ → ℕ → Verdict
+refusedToggle at output toggle = record { number = 10; place = at; output = output; toggle = toggle }
+
+-- what a verdict says of toggles: refusal 10 "returns output 1..6 and toggle", 2 or 3; "all other answers return 0 for both"
+pub record Names (v : Verdict) : Type 0 where
+  pub output : v .number ≡ 10 → (1 ≤ v .output) × (v .output ≤ 6)
+  pub toggle : v .number ≡ 10 → (v .toggle ≡ 2) ⊎ (v .toggle ≡ 3)
+  pub others : (v .number ≡ 10 → ⊥) → (v .output ≡ 0) × (v .toggle ≡ 0)
 
 -- whether a verdict accepts
 abbrev pub accepts : Verdict → Bool

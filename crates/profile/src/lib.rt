@@ -120,10 +120,12 @@ pub struct Pattern {
     pub resume2: u16,
 }
 
-// 0 or the number of a refusal, and its place.
+// 0 or the number of a refusal, and its place; for 10 the output, 1 to 6, and its toggle that is out of order, else 0 and 0.
 pub struct Verdict {
     pub number: u16,
     pub place: u64,
+    pub output: u16,
+    pub toggle: u16,
 }
 
 pub struct ReadAnswer {

@@ -27,19 +27,19 @@ use crate::patterns::rows_of;
 use crate::patterns::toggle_fault;
 use crate::ranges::in_range;
 use crate::refuse;
+use crate::values::refuse_toggle;
 ghost use mathlib.Core.Path.{_≡_};
-ghost use mathlib.Core.List.{[], _∷_, _++_};
+ghost use mathlib.Core.List.{[], _++_};
 ghost use mathlib.Core.Bool.{_&&_};
 ghost use Prim.Native.Nat.{_+_, _*_};
 ghost use lib.Dec.{leb, eqb};
 ghost use lib.ListN.{getD};
-ghost use Rattle.profile.specs.Lists.{all, chunks};
+ghost use Rattle.profile.specs.Lists.{chunks};
 ghost use Rattle.profile.specs.Patterns.{used};
 ghost use Rattle.profile.specs.Geometry.{regionCount};
 ghost use Rattle.profile.specs.Rules.{
   firstBroken,
   startsRight,
-  rowRight,
   pairsRight,
   maskRight,
   countsRight,
@@ -50,6 +50,7 @@ ghost use Rattle.profile.specs.Rules.{
   subckRight,
   shutterRight,
   orderEntries,
+  rowEntries,
   runEntries,
   entriesAt,
   regionEntries,
@@ -92,17 +93,19 @@ fn order_verdict(field: Field) -> Verdict
     accept()
 }
 
-// 10: the toggles of all six outputs.
-fn toggles_right(mode: Mode, length: u16, rows: [[u16; 3]; 6]) -> bool
-    ensures { λ r. ⌜ r ≡ all (chunks 6 (λ k. rowRight (used mode length) (getD rows k []) ∷ [])) ⌝ }
+// 10 at region i: the first toggle out of order of the first of six outputs that has one.
+fn toggles_verdict(i: usize, mode: Mode, length: u16, rows: [[u16; 3]; 6]) -> Verdict
+    ensures { λ r. ⌜ r ≡ firstBroken (chunks 6 (λ k. rowEntries i (used mode length) (getD rows k []) k)) ⌝ }
 {
-    let mut right = true;
     let mut k = 0;
     while k < 6 {
-        right = right & (toggle_fault(mode, length, rows[k]) == 0);
+        let fault = toggle_fault(mode, length, rows[k]);
+        if fault != 0 {
+            return refuse_toggle(i as u64, k as u16 + 1, fault);
+        }
         k += 1;
     }
-    right
+    accept()
 }
 
 // 11, plain: the freeze and resume pairs that the mask turns on.
@@ -197,8 +200,9 @@ fn sequence_verdict(
         return refuse(9, i as u64);
     }
     let t = pattern.toggles;
-    if !toggles_right(mode, pattern.length, rows_of(t)) {
-        return refuse(10, i as u64);
+    let toggles = toggles_verdict(i, mode, pattern.length, rows_of(t));
+    if toggles.number != 0 {
+        return toggles;
     }
     run_verdict(i, mode, sequence, pattern, size)
 }
@@ -251,9 +255,11 @@ fn second_right(tables: Tables, field: Field, pattern: Pattern, line: u64) -> bo
     let registers = tables.registers;
     let first = pattern_of(registers, sequence.pattern);
     let t = pattern.toggles;
+    // asked only whether one is out of order: a second pattern has no region, and multiplier uses the same toggles
+    let toggles = toggles_verdict(0, Mode::Multiplier, pattern.length, rows_of(t));
     is_plain(mode)
         & (pattern.length != 0)
-        & toggles_right(Mode::Multiplier, pattern.length, rows_of(t))
+        & (toggles.number == 0)
         & (pattern.length < line_length(tables, field, line))
         & first_ends(sequence, line, first.length, pattern.length)
 }

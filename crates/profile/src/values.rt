@@ -23,6 +23,7 @@ ghost use Rattle.profile.specs.Values.{
   emptyProfile,
   accepted,
   refused,
+  refusedToggle,
 };
 
 // The number of a mode.
@@ -164,6 +165,8 @@ pub fn accept() -> Verdict
     Verdict {
         number: 0,
         place: 0,
+        output: 0,
+        toggle: 0,
     }
 }
 
@@ -174,5 +177,19 @@ pub fn refuse(number: u16, place: u64) -> Verdict
     Verdict {
         number: number,
         place: place,
+        output: 0,
+        toggle: 0,
+    }
+}
+
+// The verdict of refusal 10: an output's toggle that is out of order, in a region.
+pub(crate) fn refuse_toggle(place: u64, output: u16, toggle: u16) -> Verdict
+    ensures { λ r. ⌜ r ≡ refusedToggle place output toggle ⌝ }
+{
+    Verdict {
+        number: 10,
+        place: place,
+        output: output,
+        toggle: toggle,
     }
 }

@@ -1,9 +1,10 @@
 //! "The program reads a script from standard input, has room for 4,096 steps,
 //! and prints `steps S pixels P`, then each step as decimal count, space, four
-//! upper-case hex digits; or `refused N P` alone; LF ends each line."
+//! upper-case hex digits; or `refused N P` alone; LF ends each line." At 10 the
+//! output and the toggle follow: `refused 10 P O T`.
 
 use reference::list::{compile, Compiled};
-use reference::refusal::Refusal;
+use reference::refusal::{Refusal, TOGGLE_ORDER};
 use reference::script::read;
 use std::io::{Read, Write};
 
@@ -20,7 +21,14 @@ fn answer(script: &[u8]) -> String {
     let mut words = [0; ROOM];
     match read(script).and_then(|profile| compile(&profile, &mut counts, &mut words)) {
         Ok(compiled) => steps(compiled, &counts, &words),
-        Err(Refusal { number, place }) => format!("refused {number} {place}\n"),
+        Err(refusal) => refused(refusal),
+    }
+}
+
+fn refused(Refusal { number, place, output, toggle }: Refusal) -> String {
+    match number {
+        TOGGLE_ORDER => format!("refused {number} {place} {output} {toggle}\n"),
+        _ => format!("refused {number} {place}\n"),
     }
 }
 

@@ -15,6 +15,9 @@ pub fn add(batch: &mut Batch) {
     }
     rule_9(batch);
     rule_10(batch);
+    rule_10_one_output(batch);
+    rule_10_two_outputs(batch);
+    rule_10_by_mode(batch);
     rule_11(batch);
     rule_12(batch);
     rule_13(batch);
@@ -167,6 +170,66 @@ fn rule_10(batch: &mut Batch) {
                 set_length(p, 0, length);
                 set_toggles(p, 0, 3, three);
             }));
+        }
+    }
+}
+
+/// 10 names the output and its first toggle out of order: each output alone, in
+/// the first region and in a later one.
+fn rule_10_one_output(batch: &mut Batch) {
+    for mode in MODES {
+        let seven = profile_seven(mode);
+        for output in 0..OUTPUTS {
+            for three in BREAKS_AT_2.into_iter().chain(BREAKS_AT_3) {
+                for i in [0, 4] {
+                    batch.judge(&with(&seven, |p| set_toggles(p, i, output, three)));
+                }
+            }
+        }
+    }
+    // Every entry point names them.
+    for output in 0..OUTPUTS {
+        for three in [BREAKS_AT_2[output], BREAKS_AT_3[output]] {
+            batch.ask_all(&with(&profile_seven(MODES[output % 3]), |p| set_toggles(p, output, output, three)));
+        }
+    }
+}
+
+/// Of two outputs the lower is named, whichever the toggles; of two regions the
+/// first, whichever the outputs.
+fn rule_10_two_outputs(batch: &mut Batch) {
+    for mode in MODES {
+        let seven = profile_seven(mode);
+        for high in 0..OUTPUTS {
+            for low in 0..high {
+                for at_low in [BREAKS_AT_2[high], BREAKS_AT_3[high]] {
+                    for at_high in [BREAKS_AT_2[low], BREAKS_AT_3[low]] {
+                        batch.judge(&with(&seven, |p| {
+                            set_toggles(p, 0, low, at_low);
+                            set_toggles(p, 0, high, at_high);
+                        }));
+                    }
+                }
+                batch.judge(&with(&seven, |p| {
+                    set_toggles(p, 2, high, BREAKS_AT_3[low]);
+                    set_toggles(p, 3, low, BREAKS_AT_2[low]);
+                }));
+            }
+        }
+    }
+}
+
+/// Two regions share a pattern whose toggles break 10 in one mode alone, or at
+/// another toggle than in the other mode.
+fn rule_10_by_mode(batch: &mut Batch) {
+    for three in [[1, 9, 5], [9, 5, 4095], [4, 4, 4], [4, 4, 3], [9, 5, 2]] {
+        for output in [0, 5] {
+            for (one, other) in [(0, 2), (1, 2), (2, 0), (2, 1)] {
+                batch.judge(&with(&one_region(MODES[one]), |p| {
+                    set_toggles(p, 0, output, three);
+                    p.field = field(4, 10, 0, NO_SECOND, &[region(0, 0, MODES[one]), region(2, 0, MODES[other])]);
+                }));
+            }
         }
     }
 }
@@ -385,6 +448,16 @@ fn rule_14_second(batch: &mut Batch) {
         for output in [0, 5] {
             batch.show(&with(&base, |p| set_toggles(p, 5, output, three)));
         }
+    }
+    // No output and no toggle of it is named; those of a region's pattern are.
+    for three in BREAKS_AT_2.into_iter().chain(BREAKS_AT_3) {
+        for output in 0..OUTPUTS {
+            batch.judge(&with(&base, |p| set_toggles(p, 5, output, three)));
+        }
+        batch.judge(&with(&base, |p| {
+            set_toggles(p, 5, 1, three);
+            set_toggles(p, 0, 3, three);
+        }));
     }
     // Its pairs and 9 to 13 do not apply to it.
     batch.show(&with(&base, |p| set_pairs(p, 5, [9, 3, 2, 2])));

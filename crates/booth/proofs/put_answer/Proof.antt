@@ -16,7 +16,7 @@ returns c =
     let s = c .before .before in
     let f = s .before .before in
     let a = f .before .before .before .read in
-    let l = refused-length (a .result .verdict .number) (a .result .verdict .place) (search needs) (search needs) in
+    let l = refused-length (a .result .verdict) (search needs) in
     let known = f .before .before .before .before .before in
     printed-whole 65600 (λ i. omega (arith, known .shared-slice-known .given i)) (s .put-refused-line .ensures) (printed-refused _ (a .result) (a .ensures) (f .if1 .taken))
     (known .before .pre) (omega arith)

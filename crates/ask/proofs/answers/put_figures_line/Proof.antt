@@ -15,14 +15,17 @@ returns c =
     let y = z .before .before .before .before in
     let x = y .before .before .before .before in
     let w = x .before .before .before .before in
-    let g = w .before .before .before .good in
+    let v = w .before .before .before .before in
+    let u = v .before .before .before .before in
+    let g = u .before .before .before .good in
+    let two = puts-more (puts-more (u .put-decimal .ensures) (v .put-byte .ensures)) (w .put-decimal2 .ensures) in
     record {
-      puts = puts-more (puts-more (puts-more (w .put-decimal .ensures) (x .put-byte .ensures)) (y .put-decimal2 .ensures)) (z .put-byte2 .ensures);
-      short = figures-length _ (omega (arith, g)) (omega (arith, g));
+      puts = puts-more (puts-more (puts-more two (x .put-byte2 .ensures)) (y .put-decimal3 .ensures)) (z .put-byte3 .ensures);
+      short = figures-length _ (omega (arith, g)) (omega (arith, g)) (omega (arith, g));
     }
 
 pub put-figures-line-spec : {M : Type 1} → statement M
 put-figures-line-spec =
     tie.close
-    (tie.spec (λ c κs. search needs) (λ c κs. search needs) (λ c κs. search needs) (λ c κs. search needs) (λ c. search needs)
-    returns)
+    (tie.spec (λ c κs. search needs) (λ c κs. search needs) (λ c κs. search needs) (λ c κs. search needs) (λ c κs. search needs)
+    (λ c κs. search needs) (λ c. search needs) returns)

@@ -15,7 +15,7 @@ short : (c : tie.After-shared-slice-known) → let a = c .before .before .args i
     length (printedAnswer (a .answer) (now (a .counts)) (now (a .words))) ≤ 55 + 16 * roomOf (now (a .counts)) (now (a .words))
 short c =
     let a = c .before .before .args in
-    answer-length (a .answer) (now (a .counts)) (now (a .words)) (search needs) (search needs) (search needs) (search needs)
+    answer-length (a .answer) (now (a .counts)) (now (a .words)) (search needs) (search needs) (search needs)
     (λ i. omega (arith, c .shared-slice-known .given i))
 
 pub put-printed-spec : {M : Type 1} → statement M

@@ -1,7 +1,8 @@
 -- The five tests are the definition's, of the gate line's region, sequence and pattern as they are answered.
 -- Assumes nothing.
+use Rattle.profile.specs.Patterns.{not4095}
 use Rattle.profile.specs.Rules.{secondRight}
-use Rattle.profile.proofs.Judging.{rows-tests}
+use Rattle.profile.proofs.Judging.{rows-entries, rows-right}
 use borrow.Author.Needs.{needs}
 use Rattle.profile.proofs.rules.second_right.Statement.{statement}
 use Rattle.profile.proofs.rules.second_right.Tie as tie
@@ -9,15 +10,16 @@ use Rattle.profile.proofs.rules.second_right.Tie as tie
 returns : tie.Need-returns
 unfolding secondRight
 returns c =
-    let toggles = c .before .before .before in
-    let plain = toggles .before .before .before in
-    let first = plain .before .before in
+    let plain = c .before .before .before .before .before in
+    let toggles = plain .before in
+    let first = toggles .before .before .before in
     let sequence = first .before .before in
     let region = sequence .before in
+    let args = region .before .before .args in
     rw (
       c .first-ends .ensures,
       c .before .before .line-length .ensures,
-      rows-tests _ (region .before .before .args .pattern .toggles) (toggles .before .rows-of .ensures) (toggles .toggles-right .ensures),
+      rows-right 0 not4095 (args .pattern .toggles) (rows-entries 0 not4095 (args .pattern .toggles) (toggles .before .rows-of .ensures) (toggles .toggles-verdict .ensures)),
       plain .is-plain .ensures,
       first .pattern-of .ensures,
       sequence .sequence-of .ensures,

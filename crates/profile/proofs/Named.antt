@@ -1,0 +1,127 @@
+-- What the verdicts of check, read and write name: an output and a toggle at refusal 10, 0 and 0 at every other answer (specs/Values.antt: Names).
+-- Only the entries of 10 name any, each its own output and toggle, and every verdict is an entry's, `accepted`, or a refusal of another number.
+-- Assumes nothing.
+use Prim.Native.Nat.{ℕ, zero, suc, _+_, _<_}
+use native.Mathlib.Omega.{arith}
+use mathlib.Core.Path.{_≡_, refl, subst}
+use mathlib.Core.Logic.{_⊎_, inl, inr}
+use mathlib.Core.Bool.{Bool, cond}
+use mathlib.Core.List.{List, [], _∷_}
+use lib.ListN.{length}
+use lib.Dec.{ltb, leb}
+use Rattle.profile.specs.Lists.{Each}
+use Rattle.profile.specs.Bytes.{numberAt}
+use Rattle.profile.specs.Values.{emptyProfile, accepted, refused, refusedToggle, accepts, Names}
+use Rattle.profile.specs.Ranges.{inRange}
+use Rattle.profile.specs.Rules.{lineEntries, rulesOf, judge, checkProfile}
+use Rattle.profile.specs.Script.{mostBytes, known, allowed, fits, bodyOf, Stepped, stop, next, step, afterFirst, records, readScript}
+use Rattle.profile.specs.Writing.{writeScript, writeVerdict}
+use Rattle.profile.specs.declared.Tables.{Tables}
+use Rattle.profile.specs.declared.Field.{Field}
+use Rattle.profile.specs.declared.Profile.{Profile}
+use Rattle.profile.specs.declared.Verdict.{Verdict}
+use Rattle.profile.specs.declared.ReadAnswer.{ReadAnswer}
+use Rattle.profile.proofs.Laws.{cond-case, by-cases}
+use Rattle.profile.proofs.Entries.{broken-one}
+use Rattle.profile.proofs.Checked.{judge-entries, parts-at, parts-rules}
+
+-- ---- a verdict by how it was made
+
+-- one that names no toggle, with another number than 10
+pub names-none : (n at : ℕ) → (n ≡ 10 → ⊥) → Names (refused n at)
+names-none n at h = record { output = λ e. absurd (h e); toggle = λ e. absurd (h e); others = λ e. (refl, refl) }
+
+names-toggle : (at k j : ℕ) → k < 6 → (j ≡ 2) ⊎ (j ≡ 3) → Names (refusedToggle at (k + 1) j)
+names-toggle at k j h d = record { output = λ e. (omega arith, omega arith); toggle = λ e. d; others = λ e. absurd (e refl) }
+
+pub names-accepted : Names accepted
+names-accepted = names-none 0 0 (omega arith)
+
+-- ---- the check
+
+names-rules : (t : Tables) (f : Field) → Each (λ e. Names (e .verdict)) (rulesOf t f)
+unfolding lineEntries
+names-rules t f =
+    parts-rules _ t f
+    (record {
+      order = λ i h. (names-none 7 i (omega arith), tt);
+      region = λ i h.
+          parts-at _ i _ _ _ _
+          (record {
+            given = names-none 8 i (omega arith);
+            length = names-none 9 i (omega arith);
+            toggles = λ k l. (names-toggle i k 2 l (inl refl), (names-toggle i k 3 l (inr refl), tt));
+            runs = (names-none 11 i (omega arith), (names-none 12 i (omega arith), (names-none 13 i (omega arith), tt)));
+          });
+      lines = (names-none 14 0 (omega arith), (names-none 14 0 (omega arith), tt));
+      gates = λ k h. (names-none 15 k (omega arith), tt);
+      subck = (names-none 16 0 (omega arith), tt);
+      shutters = λ k h. (names-none 17 k (omega arith), tt);
+    })
+
+judge-names : (p : Profile) → Names (judge p)
+judge-names p =
+    rw judge-entries (broken-one Names _ names-accepted (names-none 6 0 (omega arith), names-rules (p .tables) (p .field)))
+
+-- every verdict of the check: "refusal 10 then also returns output 1..6 and toggle"; "all other answers return 0 for both"
+pub check-names : (p : Profile) → Names (checkProfile p)
+unfolding checkProfile
+check-names p = cond-case Names (inRange p) _ _ (λ h. judge-names p) (λ h. names-none 5 0 (omega arith))
+
+-- ---- answers made by a test, and after the check
+
+module _ {A : Type 0} (verdict : A → Verdict) where
+  pub tested-names : (b : Bool) (x z : A) → Names (verdict x) → Names (verdict z) → Names (verdict (cond b x z))
+  tested-names b x z m n = cond-case (λ (a : A). Names (verdict a)) b x z (λ h. m) (λ h. n)
+
+  -- what the check refuses is refused with its verdict
+  pub after-check : (p : Profile) (x z : A) → Names (verdict x) → verdict z ≡ checkProfile p
+      → Names (verdict (cond (accepts (checkProfile p)) x z))
+  after-check p x z n e = tested-names (accepts (checkProfile p)) x z n (rw e (check-names p))
+
+-- ---- reading and writing
+
+-- a record that stops the reading has a number of 2 to 5
+abbrev StopNames : ℕ → Stepped → Type 0
+StopNames at (stop n) = Names (refused n at)
+StopNames at (next len q) = Unit {0}
+
+step-names : (s : List ℕ) (p : Profile) (at : ℕ) → StopNames at (step s p)
+unfolding step
+step-names s p at =
+    by-cases (ltb (length s) 4) (λ a. rw a (names-none 2 at (omega arith)))
+    (λ a.
+    by-cases (known (numberAt s 2))
+    (λ b.
+    by-cases (allowed (numberAt s 2) (numberAt s 0))
+    (λ c.
+    by-cases (ltb (length s) (4 + numberAt s 0)) (λ d. rw (a, b, c, d) (names-none 2 at (omega arith)))
+    (λ d. by-cases (fits (numberAt s 2) (bodyOf s)) (λ e. rw (a, b, c, d, e) tt) (λ e. rw (a, b, c, d, e) (names-none 5 at (omega arith)))))
+    (λ c. rw (a, b, c) (names-none 4 at (omega arith))))
+    (λ b. rw (a, b) (names-none 3 at (omega arith))))
+
+-- the record at the front, by what its step is; on is the rest
+record-names : (x : ℕ) (xs : List ℕ) (at : ℕ) (p : Profile) → ((skip at : ℕ) (q : Profile) → Names (records skip at xs q .verdict))
+    → (r : Stepped) → step (x ∷ xs) p ≡ r → Names (records 0 at (x ∷ xs) p .verdict)
+unfolding records
+record-names x xs at p on (stop n) e = rw (e, records) (subst (StopNames at) e (step-names (x ∷ xs) p at))
+record-names x xs at p on (next len q) e = rw (e, records) (on (afterFirst len) (at + 1) q)
+
+pub records-names : (s : List ℕ) (skip at : ℕ) (p : Profile) → Names (records skip at s p .verdict)
+unfolding records
+records-names [] skip at p = names-accepted
+records-names (x ∷ xs) zero at p = record-names x xs at p (λ skip at q. records-names xs skip at q) (step (x ∷ xs) p) refl
+records-names (x ∷ xs) (suc skip) at p = records-names xs skip (at + 1) p
+
+pub read-names : (s : List ℕ) → Names (readScript s .verdict)
+unfolding readScript
+read-names s =
+    let r = records 0 0 s emptyProfile in
+    tested-names (λ (a : ReadAnswer). a .verdict) (leb (length s) mostBytes) _ _
+    (tested-names (λ (a : ReadAnswer). a .verdict) (accepts (r .verdict)) _ _ (judge-names (r .profile)) (records-names s 0 0 emptyProfile))
+    (names-none 1 0 (omega arith))
+
+pub write-names : (p : Profile) (room : ℕ) → Names (writeVerdict p room)
+write-names p room =
+    after-check (λ v. v) p _ _
+    (tested-names (λ v. v) (leb (length (writeScript p)) room) _ _ names-accepted (names-none 18 _ (omega arith))) refl
