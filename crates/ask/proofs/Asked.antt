@@ -9,7 +9,6 @@ use lib.Dec.{leb, eqb}
 use lib.ListN.{length, take, length-drop}
 use lib.Seq.{take-all, take-take, length-take-le}
 use borrow.Author.Tests.{le-leb, lt-leb, leb-true, leb-false, eq-eqb}
-use Rattle.profile.specs.Bytes.{Bytes}
 use Rattle.profile.specs.Values.{accepted, refused}
 use Rattle.profile.specs.Rules.{checkProfile}
 use Rattle.profile.specs.Script.{mostBytes, readScript}
@@ -125,12 +124,12 @@ asked-enough input =
 
 -- ---- WHAT IS WRITTEN READS BACK: the script that is printed for an accepted one gives the same profile, and is accepted
 
-module _ (s : List ℕ) (b : Bytes s) (h : readScript s .verdict .number ≡ 0) where
+module _ (s : List ℕ) (h : readScript s .verdict .number ≡ 0) where
   abbrev profile : Profile
   profile = readScript s .profile
 
   checked : checkProfile profile ≡ accepted
-  checked = read-accepted s b h
+  checked = read-accepted s h
 
   pub written-script : writeAsked s ≡ writeScript profile
   unfolding ofProfile writeText

@@ -1,12 +1,11 @@
 -- Numbers that are cut at a million millions ask for the same: no accepted field has so many lines or pixels.
 -- Assumes nothing.
-use Prim.Native.Nat.{ℕ, _≤_, _<_, min}
+use Prim.Native.Nat.{ℕ, _≤_, min}
 use native.Mathlib.Omega.{arith}
 use mathlib.Core.Path.{_≡_, sym, ap, _∙_}
 use mathlib.Core.Bool.{Bool, true}
 use mathlib.Core.List.{List}
 use lib.Dec.{ltb}
-use lib.ListN.{getD}
 use borrow.Author.Tests.{le-ltb, ltb-true, ltb-false, eqb-true}
 use Rattle.profile.specs.Values.{accepted, accepts}
 use Rattle.profile.specs.Geometry.{lineLength, pixelCount, hasPixel}
@@ -83,14 +82,14 @@ module _ (p : Profile) (e : checkProfile p ≡ accepted) where
 
 -- ---- of a script
 
-module _ (s : List ℕ) (b : (i : ℕ) → getD s i 0 < 256) where
+module _ (s : List ℕ) where
   -- texts that are the same for every accepted profile
   of-same :
       (f g : Profile → List ℕ) → ((p : Profile) → checkProfile p ≡ accepted → f p ≡ g p) → ofProfile f s ≡ ofProfile g s
   unfolding ofProfile
   of-same f g h =
       by-cases (accepts (readScript s .verdict))
-      (λ t. rw t (h (readScript s .profile) (read-accepted s (record { at = b }) (eqb-true (readScript s .verdict .number) 0 t))))
+      (λ t. rw t (h (readScript s .profile) (read-accepted s (eqb-true (readScript s .verdict .number) 0 t))))
       (λ t. rw t)
 
   pub level-asked : (l x : ℕ) → levelAsked (min l cap) (min x cap) s ≡ levelAsked l x s

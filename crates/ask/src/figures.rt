@@ -12,6 +12,7 @@ use profile::pattern_of;
 use profile::read_records;
 use profile::region_at;
 use profile::region_pixels;
+use profile::rows_of;
 use profile::sequence_at;
 use profile::shutter_of;
 ghost use mathlib.Core.Path.{_≡_};
@@ -124,8 +125,10 @@ fn toggle_of(pattern: Pattern, k: u16, j: u16) -> u16
     if 6 <= output {
         return 0;
     }
-    let t = pattern.toggles;
-    t[3 * output + toggle]
+    let toggles = pattern.toggles;
+    let rows = rows_of(toggles);
+    let row = rows[output];
+    row[toggle]
 }
 
 // 10.

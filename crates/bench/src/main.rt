@@ -1,5 +1,5 @@
 // A test of speed: 4095 lines of 4095 words, through `fill`, of a line whose numbers come from standard input. Writes a checksum.
-// The numbers are decimal, with one byte between two of them: 24 half registers of the first pattern and 24 of the second, then
+// The numbers are decimal, with one byte between two of them: the half registers of patterns 0 and 1, as a profile holds them, then
 // length, mode, start, repetitions, mask bits, whether the second pattern acts; acts, level and two toggles of VSG1 to VSG5 and of SUBCK;
 // level, from and to of MSHUT and of STROBE. bench/levels.c does the same by the same rules in C.
 use level::Line;
@@ -81,9 +81,8 @@ fn mask_of(on: bool, freeze: u16, resume: u16) -> Mask {
 fn line_from(n: [u16; 240], i: u64) -> Line
     requires { ⌜ i < 4095 ⌝ }
 {
-    let mut registers = n;
-    registers[0] = (n[0] % 64 + ((i % 64) as u16)) % 64;
-    let pattern = pattern_of(registers, 0);
+    let mut pattern = pattern_of(n, 0);
+    pattern.levels = (pattern.levels % 64 + ((i % 64) as u16)) % 64;
     Line {
         length: n[48],
         mode: mode_of(n[49]),

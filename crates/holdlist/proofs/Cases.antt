@@ -9,6 +9,7 @@ use Rattle.profile.specs.Lists
 use Rattle.profile.specs.Lists.{chunks}
 use Rattle.profile.specs.Bytes.{twoBytes, threeBytes}
 use Rattle.profile.specs.Values
+use Rattle.profile.specs.Layout
 use Rattle.profile.specs.Patterns
 use Rattle.profile.specs.Geometry
 use Rattle.profile.specs.Ranges
@@ -202,7 +203,8 @@ pub cases : map (λ (c : Case). ask (c .script) (c .question)) table ≡ map (λ
 unfolding ask table flatMap
     Lists.all Lists.chunks Lists.sum Lists.lastStart
     Values.emptyField Values.emptyTables
-    Patterns.patternOf Patterns.toggleFault Patterns.highestUsed
+    Layout.halfPattern Layout.halfPart
+    Patterns.withPart Patterns.patternUpTo Patterns.patternOf Patterns.toggleFault Patterns.highestUsed
     Geometry.endLine Geometry.regionOf Geometry.lengthIn Geometry.lineLength Geometry.regionPixels Geometry.pixelsBefore Geometry.pixelCount
     Geometry.hasPixel
     Ranges.sequenceIn Ranges.regionIn Ranges.headIn Ranges.gateIn Ranges.subckIn Ranges.shutterIn Ranges.inRange

@@ -12,3 +12,4 @@ pub mod FieldLoops
 pub mod Readback
 pub mod Prints
 pub mod Named
+pub mod Before

@@ -106,7 +106,7 @@ module _ (s : List ℕ) (b : Bytes s) where
   -- a profile that is taken is accepted
   taken-accepted : (p : Profile) → readScript s ≡ taken p → checkProfile p ≡ accepted
   taken-accepted p e =
-      subst (λ (r : ReadAnswer). checkProfile (r .profile) ≡ accepted) e (read-accepted s b (ap (λ (r : ReadAnswer). r .verdict .number) e))
+      subst (λ (r : ReadAnswer). checkProfile (r .profile) ≡ accepted) e (read-accepted s (ap (λ (r : ReadAnswer). r .verdict .number) e))
 
   -- no refusal has the number 0: the empty profile has no field
   unread-number : (v : Verdict) → readScript s ≡ unread v → 1 ≤ v .number
@@ -115,7 +115,7 @@ module _ (s : List ℕ) (b : Bytes s) where
       by-cases (eqb (v .number) 0)
       (λ q.
       let z : readScript s .verdict .number ≡ 0 = ap (λ (r : ReadAnswer). r .verdict .number) e ∙ eqb-true (v .number) 0 q in
-      let a : checkProfile emptyProfile ≡ accepted = subst (λ (r : ReadAnswer). checkProfile (r .profile) ≡ accepted) e (read-accepted s b z) in
+      let a : checkProfile emptyProfile ≡ accepted = subst (λ (r : ReadAnswer). checkProfile (r .profile) ≡ accepted) e (read-accepted s z) in
       absurd (false≢true (accepted-field emptyProfile a)))
       (λ q. omega (arith, eqb-false (v .number) 0 q))
 

@@ -13,18 +13,13 @@ use lib.Seq.{drop-at}
 use lib.Dec.{eqb, ltb, leb·suc-suc}
 use borrow.Author.Tests.{lt-ltb, le-ltb, eq-eqb, ne-eqb, eqb-true, eqb-false}
 use Rattle.profile.specs.Lists.{Each, over}
-use Rattle.profile.proofs.Laws.{cond-case, by-cases, each-append}
+use Rattle.profile.proofs.Laws.{cond-case, by-cases, each-at, each-append}
 use Rattle.holdlist.specs.declared.Step.{Step}
 use Rattle.holdlist.specs.Play.{walk, expand, playedWord}
 use Rattle.holdlist.specs.Runs.{none, flush, pushed, shut, opened, closed, runs, stepCount, stepWord, stepCounts, stepWords}
 use Rattle.holdlist.proofs.Player.{showing}
 
 -- ---- lists
-
-pub each-at : {A : Type 0} (P : A → Type 0) (xs : List A) (d : A) → Each P xs → P d → (i : ℕ) → P (getD xs i d)
-each-at P [] d a z i = z
-each-at P (x ∷ xs) d a z zero = a .0
-each-at P (x ∷ xs) d a z (suc i) = each-at P xs d (a .1) z i
 
 replicate-snoc : (n w : ℕ) → replicate (suc n) w ≡ replicate n w ++ (w ∷ [])
 replicate-snoc n w = ap (λ (k : ℕ). replicate k w) (sym (add-one n)) ∙ sym (replicate-append-replicate n 1 w)

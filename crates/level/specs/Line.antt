@@ -6,7 +6,7 @@ use mathlib.Core.Bool.{Bool, false, cond, _&&_, _||_}
 use lib.ListN.{getD, replicate}
 use lib.Dec.{ltb, leb, eqb}
 use Rattle.profile.specs.Values.{emptyGate, emptyShutter}
-use Rattle.profile.specs.Patterns.{patternOf}
+use Rattle.profile.specs.Patterns.{emptyPattern, patternOf}
 use Rattle.profile.specs.Geometry.{regionAt, regionOf, sequenceOf, lengthIn, regionPixels, repetitions, gateLines}
 use Rattle.profile.specs.Rules.{pairOn, hasSecond, secondOf, gateOn}
 use Rattle.profile.specs.declared.Mode.the-variants.{Plain}
@@ -84,18 +84,6 @@ shutterHere s line length =
     (record { level = s .active; from = opensAt s line; to = closesAt s line length })
     (record { level = s .active; from = 0; to = 0 }))
     absentSpan
-
-abbrev pub emptyPattern : Pattern
-emptyPattern =
-    record {
-      levels = 0;
-      length = 0;
-      toggles = replicate 18 0;
-      freeze1 = 0;
-      resume1 = 0;
-      freeze2 = 0;
-      resume2 = 0;
-    }
 
 -- the line of region r, whose number is i, with sequence s and that sequence's pattern a
 unfoldable pub lineWith : Tables → Field → ℕ → ℕ → Region → Sequence → Pattern → Line

@@ -6,10 +6,10 @@ use crate::Span;
 use profile::Field;
 use profile::Gate;
 use profile::Mode;
-use profile::Pattern;
 use profile::Shutter;
 use profile::Subck;
 use profile::Tables;
+use profile::empty_pattern;
 use profile::length_in;
 use profile::pattern_of;
 use profile::region_at;
@@ -23,7 +23,7 @@ ghost use mathlib.Core.Bool.{_&&_};
 ghost use Rattle.profile.specs.Geometry.{regionPixels};
 ghost use lib.Dec.{eqb};
 ghost use Rattle.profile.specs.Rules.{hasSecond};
-ghost use Rattle.level.specs.Line.{onGateLine, absentPulse, absentSpan, gateHere, gatesHere, subckHere, opensAt, closesAt, shutterHere, emptyPattern, lineIn, noLine, lineOf};
+ghost use Rattle.level.specs.Line.{onGateLine, absentPulse, absentSpan, gateHere, gatesHere, subckHere, opensAt, closesAt, shutterHere, lineIn, noLine, lineOf};
 
 // The region's pixels before a line of region i.
 fn origin_of(tables: Tables, field: Field, i: usize, line: u16) -> u32
@@ -199,21 +199,6 @@ fn line_in(tables: Tables, field: Field, line: u16, i: usize) -> Line
     }
 }
 
-// A pattern of zeros.
-fn no_pattern() -> Pattern
-    ensures { λ r. ⌜ r ≡ emptyPattern ⌝ }
-{
-    Pattern {
-        levels: 0,
-        length: 0,
-        toggles: [0u16; 18],
-        freeze1: 0,
-        resume1: 0,
-        freeze2: 0,
-        resume2: 0,
-    }
-}
-
 // A line that the field does not have: as if every item were absent.
 fn no_line() -> Line
     ensures { λ r. ⌜ r ≡ noLine ⌝ }
@@ -228,14 +213,14 @@ fn no_line() -> Line
     Line {
         length: 0,
         mode: Mode::Plain,
-        pattern: no_pattern(),
+        pattern: empty_pattern(),
         start: 0,
         origin: 0,
         repetitions: 0,
         mask1: mask,
         mask2: mask,
         second_acts: false,
-        second: no_pattern(),
+        second: empty_pattern(),
         gates: [pulse; 5],
         subck: pulse,
         mshut: span,

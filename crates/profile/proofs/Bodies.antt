@@ -2,18 +2,19 @@
 -- Two or three bytes give their number again, so the record's tests are the item's own ranges.
 -- Assumes nothing.
 use mathlib.Core.Path.{_≡_, refl, sym, ap, _∙_}
-use mathlib.Core.Bool.{Bool, true, not, _||_}
+use mathlib.Core.Bool.{Bool, true}
 use mathlib.Core.List.{List, _∷_, _++_}
 use Prim.Native.Nat.{ℕ, _+_, _*_, _/_, _%_, _<_, _≤_}
 use native.Mathlib.Omega.{arith}
-use borrow.Author.Tests.{le-ltb, le-leb, leb-true, eq-eqb, eqb-true}
-use lib.Dec.{leb, eqb}
+use borrow.Author.Tests.{le-ltb, le-leb, leb-true}
+use lib.Dec.{leb}
 use lib.ListN.{length, set, length-append}
 use lib.Seq.{take-append-seam}
 use Rattle.profile.specs.Lists.{all}
 use Rattle.profile.specs.Bytes.{recordOf}
 use Rattle.profile.specs.Values.{setRegisters, setSequences, setGates, setSubck, setShutters, setTables}
-use Rattle.profile.specs.Ranges.{halfLimit, sequenceRange, gateRange, subckRange, shutterRange}
+use Rattle.profile.specs.Layout.{halfPart, halfLimit}
+use Rattle.profile.specs.Ranges.{sequenceRange, gateRange, subckRange, shutterRange}
 use Rattle.profile.specs.Script.{
   registerFits,
   sequenceFrom,
@@ -48,7 +49,8 @@ use Rattle.profile.specs.declared.Gate.{Gate}
 use Rattle.profile.specs.declared.Subck.{Subck}
 use Rattle.profile.specs.declared.Shutter.{Shutter}
 use Rattle.profile.specs.declared.Profile.{Profile}
-use Rattle.profile.proofs.Laws.{by-cases, all-passed, passed, where-intro}
+use Rattle.profile.proofs.Laws.{all-passed, passed}
+use Rattle.profile.proofs.Halves.{part-most}
 use Rattle.profile.proofs.Takes.{Takes, takes-record}
 
 -- ---- any kind
@@ -83,20 +85,7 @@ takes-written kind b {p} {q} k a f w = takes-record (length b) (omega arith) fro
 -- ---- kind 1
 
 half-below : (i h : ℕ) → leb h (halfLimit i) ≡ true → h < 4096
-half-below i h e =
-    by-cases (eqb (i % 24) 0)
-    (λ z. omega (arith, leb-true h 63 (rw z at e)))
-    (λ z. omega (arith, leb-true h 4095 (rw z at e)))
-
--- of a word 0, bits 6..11 are 0: its low half is at most 63
-word-fits : (a low high : ℕ) → leb low (halfLimit (2 * a)) ≡ true
-    → not (eqb (a % 12) 0) || eqb ((low + 4096 * high) / 64 % 64) 0 ≡ true
-word-fits a low high e =
-    where-intro (eqb (a % 12) 0) _
-    (λ z.
-    let m : (2 * a) % 24 ≡ 0 = omega (arith, eqb-true (a % 12) 0 z) in
-    let l : low ≤ 63 = leb-true low 63 (rw (eq-eqb _ _ m) at e) in
-    eq-eqb ((low + 4096 * high) / 64 % 64) 0 (omega arith))
+half-below i h e = omega (arith, leb-true h (halfLimit i) e, part-most (halfPart i))
 
 pub takes-register : (a low high : ℕ) (p : Profile) → a < 120 → leb low (halfLimit (2 * a)) ≡ true → leb high (halfLimit (2 * a + 1)) ≡ true
     → Takes (registerRecord a low high) p
@@ -110,7 +99,7 @@ takes-register a low high p h hl hh =
     let lo : v % 4096 ≡ low = omega arith in
     let hi : v / 4096 ≡ high = omega arith in
     takes-written 1 (registerBody a low high) refl refl
-    (rw j (all-passed _ (le-leb a 119 (omega arith), (word-fits a low high hl, tt))))
+    (rw (j, lo, hi) (all-passed _ (le-leb a 119 (omega arith), (hl, (hh, tt)))))
     (rw (j, lo, hi))
 
 -- ---- kinds 2, 4 and 6: an item with a number

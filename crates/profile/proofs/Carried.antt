@@ -1,8 +1,8 @@
 -- A profile is in range exactly where every number is one that a record can carry and every absent item is all zeros: each item's tests are its
 -- sentences, by its presence, and the one test is taken apart item by item.
 -- Assumes nothing.
-use Prim.Native.Nat.{ℕ, _*_, _/_, _%_, _≤_, _<_}
-use native.Mathlib.Nat.{add-zero, le-trans}
+use Prim.Native.Nat.{ℕ, _≤_, _<_}
+use native.Mathlib.Nat.{le-trans}
 use native.Mathlib.Omega.{arith}
 use mathlib.Core.Path.{_≡_, refl, sym}
 use mathlib.Core.Logic.{_⊎_}
@@ -10,11 +10,11 @@ use mathlib.Core.Bool.{Bool, true, false, cond, _||_, false≢true}
 use mathlib.Core.List.{List, [], _∷_}
 use lib.ListN.{getD}
 use lib.Dec.{leb, ltb, eqb}
-use borrow.Author.Tests.{leb-true, le-leb, eqb-true}
+use borrow.Author.Tests.{leb-true, le-leb}
 use Rattle.profile.specs.Lists.{Each, all}
 use Rattle.profile.specs.Geometry.{regionAt, sequenceOf, gateOf, shutterOf}
+use Rattle.profile.specs.Layout.{halfPart, partLimit, halfLimit}
 use Rattle.profile.specs.Ranges.{
-  halfLimit,
   sequenceRange,
   fieldRange,
   regionRange,
@@ -37,6 +37,7 @@ use Rattle.profile.specs.Obeys.{
   SubckRanged,
   ShutterRanged,
   RegionRanged,
+  HalfRanged,
   Given,
   SequenceIn,
   GateIn,
@@ -45,32 +46,35 @@ use Rattle.profile.specs.Obeys.{
   Ranged,
 }
 use Rattle.profile.specs.Values.{emptyRegion}
+use Rattle.profile.specs.declared.layout.Part.{Part}
+use Rattle.profile.specs.declared.layout.Part.the-variants.{Levels, Length, Toggle, Freeze, Resume}
 use Rattle.profile.specs.declared.Sequence.{Sequence}
 use Rattle.profile.specs.declared.Field.{Field}
 use Rattle.profile.specs.declared.Gate.{Gate}
 use Rattle.profile.specs.declared.Subck.{Subck}
 use Rattle.profile.specs.declared.Shutter.{Shutter}
 use Rattle.profile.specs.declared.Profile.{Profile}
-use Rattle.profile.proofs.Laws.{by-cases, passed, all-passed}
+use Rattle.profile.proofs.Laws.{passed, all-passed}
+use Rattle.profile.proofs.Halves.{part-most}
 use Rattle.profile.proofs.Reflects.{Says, says-eq, says-le, says-and, says-or, says-cons, says-each, says-map, says-plain}
 
 -- ---- half registers
 
-half-limit : (i : ℕ) → halfLimit i ≤ 4095
-half-limit i = by-cases (eqb (i % 24) 0) (λ e. rw e (omega arith)) (λ e. rw e (omega arith))
-
-level-limit : (k : ℕ) → halfLimit (24 * k) ≡ 63
-level-limit k = let z : (24 * k) % 24 ≡ 0 = omega arith in rw z
-
-level-within : {h : ℕ} (k : ℕ) → h ≤ halfLimit (24 * k) → h ≤ 63
-level-within k w = rw level-limit at w
-
 -- the two sentences on half registers give the one limit of each
-half-within : (h i : ℕ) → h ≤ 4095 → ((k : ℕ) → i ≡ 24 * k → h ≤ 63) → h ≤ halfLimit i
-half-within h i a b =
-    by-cases (eqb (i % 24) 0)
-    (λ e. let z = eqb-true (i % 24) 0 e in rw e (b (i / 24) (omega arith)))
-    (λ e. rw e a)
+part-within : (x : ℕ) (part : Part) → x ≤ 4095 → (part ≡ Levels → x ≤ 63) → x ≤ partLimit part
+part-within x Levels a b = b refl
+part-within x Length a b = a
+part-within x (Toggle output toggle) a b = a
+part-within x (Freeze pair) a b = a
+part-within x (Resume pair) a b = a
+
+pub says-half : (i x : ℕ) → Says (leb x (halfLimit i)) (HalfRanged i x)
+says-half i x = (
+  (λ e.
+      let w = leb-true x (halfLimit i) e in
+      record { bits = le-trans w (part-most (halfPart i)); levels = λ z. rw z at w }),
+  λ r. le-leb x (halfLimit i) (part-within x (halfPart i) (r .bits) (r .levels)),
+)
 
 -- ---- items, present and absent
 
@@ -250,23 +254,18 @@ module _ (p : Profile) where
   pub says-range : Says (inRange p) (Ranged p)
   says-range =
       let w =
-      says-parts p (λ i. half i ≤ halfLimit i) (λ k. SequenceIn (sequenceOf (p .tables) k)) (λ k. GateIn (gateOf (p .tables) k))
-      (λ k. ShutterIn (shutterOf (p .tables) k)) _ _ _ (λ i. says-le _ _) (λ k. sequence-in _) (λ k. gate-in _)
+      says-parts p (λ i. HalfRanged i (half i)) (λ k. SequenceIn (sequenceOf (p .tables) k)) (λ k. GateIn (gateOf (p .tables) k))
+      (λ k. ShutterIn (shutterOf (p .tables) k)) _ _ _ (λ i. says-half i (half i)) (λ k. sequence-in _) (λ k. gate-in _)
       (subck-in (p .tables .subck)) (λ k. shutter-in _) (head-in (p .field)) (region-in (p .field)) in (
         (λ e.
             let q = w .0 e in
-            let halves = q .0 .0 .0 .0 .0 in
             record {
-              halves = λ i h. le-trans (halves i h) (half-limit i);
-              start-levels = λ k h. rw add-zero (level-within k (halves (24 * k) (omega arith)));
+              halves = q .0 .0 .0 .0 .0;
               sequences = q .0 .0 .0 .0 .1;
               gates = q .0 .0 .0 .1;
               subck = q .0 .0 .1;
               shutters = q .0 .1;
               field = record { head = q .1 .0; regions = q .1 .1 };
             }),
-        λ r.
-            let start : (i : ℕ) → i < 240 → (k : ℕ) → i ≡ 24 * k → half i ≤ 63 = λ i h k e. rw e (rw add-zero at (r .start-levels k (omega arith))) in
-            let halves : (i : ℕ) → i < 240 → half i ≤ halfLimit i = λ i h. half-within _ i (r .halves i h) (start i h) in
-            w .1 (((((halves, r .sequences), r .gates), r .subck), r .shutters), (r .field .head, r .field .regions)),
+        λ r. w .1 (((((r .halves, r .sequences), r .gates), r .subck), r .shutters), (r .field .head, r .field .regions)),
       )

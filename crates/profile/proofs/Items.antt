@@ -10,8 +10,8 @@ use lib.ListN.{getD}
 use Rattle.profile.specs.Lists.{all}
 use Rattle.profile.specs.Values.{emptyRegion, emptySequence, emptyGate, emptySubck, emptyShutter}
 use Rattle.profile.specs.Geometry.{regionAt, sequenceOf, gateOf, shutterOf}
+use Rattle.profile.specs.Layout.{halfLimit}
 use Rattle.profile.specs.Ranges.{
-  halfLimit,
   sequenceRange,
   fieldRange,
   regionRange,

@@ -100,7 +100,7 @@ own-item l m k v d h g = getD-set-same l k v d h ∙ sym (getD-set-same m k v d 
 -- its own item is what it says, whatever was there
 with-own : (b : List ℕ) (k : ℕ) → Fits b k → (p q : Profile) → Sized p → Sized q → Same (itemOf k b) (withRecord k b p) (withRecord k b q)
 unfolding withRecord
-with-own b k (register-fits h w) p q y z =
+with-own b k (register-fits h l u) p q y z =
     let x = own-halves (p .tables .registers) (getD b 0 0) _ _ h (y .registers) in
     let x′ = own-halves (q .tables .registers) (getD b 0 0) _ _ h (z .registers) in
     (x .0 ∙ sym (x′ .0), x .1 ∙ sym (x′ .1))

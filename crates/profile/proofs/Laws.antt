@@ -371,6 +371,12 @@ pub each-map : {A : Type 0} (P Q : A → Type 0) → ((x : A) → P x → Q x) �
 each-map P Q f [] w = tt
 each-map P Q f (x ∷ xs) w = (f x (w .0), each-map P Q f xs (w .1))
 
+-- what holds of each element and of the default holds at every place
+pub each-at : {A : Type 0} (P : A → Type 0) (xs : List A) (d : A) → Each P xs → P d → (i : ℕ) → P (getD xs i d)
+each-at P [] d a z i = z
+each-at P (x ∷ xs) d a z zero = a .0
+each-at P (x ∷ xs) d a z (suc i) = each-at P xs d (a .1) z i
+
 module _ {A : Type 0} (P : A → Type 0) where
   pub each-append : (a b : List A) → Each P a → Each P b → Each P (a ++ b)
   each-append [] b v w = w

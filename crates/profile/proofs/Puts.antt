@@ -1,20 +1,20 @@
 -- A record whose values fit leaves a profile of the same array lengths, and in range where it was.
--- One item changes, and the record's tests are its ranges; a register's two halves are bounded by its bytes.
+-- One item changes, and the record's tests are its ranges.
 -- Assumes nothing.
 use mathlib.Core.Path.{_≡_, ap, _∙_}
 use mathlib.Core.Bool.{Bool, true, false, cond}
 use mathlib.Core.List.{List, _∷_}
-use Prim.Native.Nat.{ℕ, _+_, _-_, _*_, _/_, _%_, _≤_, _<_}
+use Prim.Native.Nat.{ℕ, _+_, _-_, _*_, _≤_, _<_}
 use native.Mathlib.Omega.{arith}
-use borrow.Author.Tests.{ltb-true, ltb-false, le-leb, eqb-true, eqb-false, eq-eqb, ne-eqb}
+use borrow.Author.Tests.{ltb-true, ltb-false, eqb-true, eqb-false}
 use lib.Dec.{ltb, leb, eqb}
 use lib.ListN.{length, getD, set, length-set}
 use lib.Seq.{set-out, getD-set-same, getD-set-other}
 use Rattle.profile.specs.Lists.{all}
-use Rattle.profile.specs.Bytes.{Bytes, numberAt, dataAt}
+use Rattle.profile.specs.Bytes.{numberAt}
 use Rattle.profile.specs.Values.{Sized, emptyRegion, emptySequence, emptyGate, emptyShutter, setTables, setField}
+use Rattle.profile.specs.Layout.{halfLimit}
 use Rattle.profile.specs.Ranges.{
-  halfLimit,
   sequenceRange,
   fieldRange,
   regionRange,
@@ -30,6 +30,8 @@ use Rattle.profile.specs.Ranges.{
 use Rattle.profile.specs.Script.{
   headLength,
   regionLength,
+  lowFrom,
+  highFrom,
   registerFits,
   withRegister,
   sequenceFrom,
@@ -57,7 +59,7 @@ use Rattle.profile.specs.declared.Sequence.{Sequence}
 use Rattle.profile.specs.declared.Gate.{Gate}
 use Rattle.profile.specs.declared.Shutter.{Shutter}
 use Rattle.profile.specs.declared.Profile.{Profile}
-use Rattle.profile.proofs.Laws.{by-cases, and-left, and-right, where-true, passed, all-passed, all-chunks}
+use Rattle.profile.proofs.Laws.{by-cases, and-left, and-right, passed, all-passed, all-chunks}
 use Rattle.profile.proofs.Items.{Items, field-count, region-inside, region-past}
 use Rattle.profile.proofs.FieldBody.{padded-front, padded-past, length-padded}
 
@@ -131,51 +133,17 @@ region-ranged b e i h =
 
 -- ---- kind 1
 
-low-part : (u x : ℕ) → u < 4096 → (u + 4096 * x) % 4096 ≡ u
-low-part u x h = omega arith
-
--- bits 6..11 of a number are 0: its lowest 12 bits are its lowest 6
-six-bits : (v : ℕ) → v / 64 % 64 ≡ 0 → v % 4096 ≤ 63
-six-bits v e =
-    let q : v ≡ v % 64 + 4096 * (v / 64 / 64) = omega arith in
-    let u : v % 64 < 4096 = omega arith in
-    omega (arith, ap (λ (w : ℕ). w % 4096) q ∙ low-part (v % 64) (v / 64 / 64) u)
-
-twelves : (q : ℕ) → (12 * q) % 12 ≡ 0
-twelves q = omega arith
-
--- half 0 of a pattern is of its word 0
-word-zero : (a : ℕ) → (2 * a) % 24 ≡ 0 → a % 12 ≡ 0
-word-zero a e = let q : a ≡ 12 * (2 * a / 24) = omega arith in ap (λ (x : ℕ). x % 12) q ∙ twelves (2 * a / 24)
-
-module _ (b : List ℕ) (bytes : Bytes b) (e : registerFits b ≡ true) where
-  -- word 0 of a pattern: bits 6..11 are 0
-  low-ranged : leb (dataAt b 1 % 4096) (halfLimit (2 * getD b 0 0)) ≡ true
-  unfolding registerFits
-  low-ranged =
-      let a = getD b 0 0 in
-      let v = dataAt b 1 in
-      let r = passed _ e in
-      by-cases (eqb ((2 * a) % 24) 0)
-      (λ z.
-      let m : a % 12 ≡ 0 = word-zero a (eqb-true ((2 * a) % 24) 0 z) in
-      let w = eqb-true (v / 64 % 64) 0 (where-true (eqb (a % 12) 0) _ (r .1 .0) (eq-eqb (a % 12) 0 m)) in
-      rw z (le-leb (v % 4096) 63 (six-bits v w)))
-      (λ z. rw z (le-leb (v % 4096) 4095 (omega arith)))
-
-  high-ranged : leb (dataAt b 1 / 4096) (halfLimit (2 * getD b 0 0 + 1)) ≡ true
-  high-ranged =
-      let a = getD b 0 0 in
-      let m : (2 * a + 1) % 24 ≡ 0 → ⊥ = omega arith in
-      rw (ne-eqb ((2 * a + 1) % 24) 0 m) (le-leb (dataAt b 1 / 4096) 4095 (omega (arith, bytes .at 1, bytes .at 2, bytes .at 3)))
-
+-- the two halves of its word, at most what their parts can be
+module _ (b : List ℕ) (e : registerFits b ≡ true) where
   halves-ranged : (l : List ℕ) → ((i : ℕ) → i < 240 → leb (getD l i 0) (halfLimit i) ≡ true)
       → (i : ℕ) → i < 240
-      → leb (getD (set (set l (2 * getD b 0 0) (dataAt b 1 % 4096)) (2 * getD b 0 0 + 1) (dataAt b 1 / 4096)) i 0) (halfLimit i) ≡ true
+      → leb (getD (set (set l (2 * getD b 0 0) (lowFrom b)) (2 * getD b 0 0 + 1) (highFrom b)) i 0) (halfLimit i) ≡ true
+  unfolding registerFits
   halves-ranged l old =
+      let w = passed _ e in
       let in-limit : ℕ → ℕ → Type 0 = λ i x. leb x (halfLimit i) ≡ true in
-      stored in-limit 240 (set l (2 * getD b 0 0) (dataAt b 1 % 4096)) (2 * getD b 0 0 + 1) (dataAt b 1 / 4096) 0 high-ranged
-      (stored in-limit 240 l (2 * getD b 0 0) (dataAt b 1 % 4096) 0 low-ranged old)
+      stored in-limit 240 (set l (2 * getD b 0 0) (lowFrom b)) (2 * getD b 0 0 + 1) (highFrom b) 0 (w .1 .1 .0)
+      (stored in-limit 240 l (2 * getD b 0 0) (lowFrom b) 0 (w .1 .0) old)
 
 -- ---- kinds 2, 4, 5, 6: a present item, whose tests are the record's
 
@@ -232,12 +200,12 @@ ranged : (p : Profile) → ((i : ℕ) → i < 240 → leb (getD (p .tables .regi
     → ((i : ℕ) → i < 7 → regionIn (p .field) i ≡ true) → Items p
 ranged p h s g c u f r = record { halves = h; sequences = s; gates = g; subck = c; shutters = u; field = f; regions = r }
 
-pub with-items : (kind : ℕ) (b : List ℕ) (p : Profile) → Bytes b → Items p → fits kind b ≡ true → Items (withRecord kind b p)
-with-items kind b p bytes r =
+pub with-items : (kind : ℕ) (b : List ℕ) (p : Profile) → Items p → fits kind b ≡ true → Items (withRecord kind b p)
+with-items kind b p r =
     let t = p .tables in
     with-case Items kind b p
     (λ f.
-    ranged _ (halves-ranged b bytes f (t .registers) (r .halves)) (r .sequences) (r .gates) (r .subck) (r .shutters) (r .field) (r .regions))
+    ranged _ (halves-ranged b f (t .registers) (r .halves)) (r .sequences) (r .gates) (r .subck) (r .shutters) (r .field) (r .regions))
     (λ f.
     let s =
     stored (λ (i : ℕ) (s : Sequence). sequenceIn s ≡ true) 10 (t .sequences) (numberAt b 0) (sequenceFrom b) emptySequence

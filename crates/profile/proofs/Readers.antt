@@ -1,17 +1,18 @@
 -- Laws of the readers in code: a test before others, a body's answer, items with a number, a register, a field and its regions.
 -- Assumes nothing.
 use mathlib.Core.Path.{_≡_, refl, sym, _∙_}
-use mathlib.Core.Bool.{Bool, true, false, not, _&&_, _||_}
+use mathlib.Core.Bool.{Bool, true, false, not, _&&_}
 use mathlib.Core.List.{List, [], _∷_, _++_, append-assoc}
 use Prim.Native.Nat.{ℕ, suc, _+_, _-_, _*_, _/_, _%_, _≤_, _<_}
 use native.Mathlib.Omega.{arith}
-use borrow.Author.Tests.{not-true, not-false, leb-true, eqb-true, ne-eqb}
+use borrow.Author.Tests.{not-true, not-false, leb-true, le-leb, lt-leb, eqb-true, ne-eqb}
 use lib.Dec.{leb, eqb}
 use lib.ListN.{length, getD, set, replicate, length-set}
 use lib.Seq.{set-at}
 use Rattle.profile.specs.Lists.{all, chunks}
 use Rattle.profile.specs.Values.{modeOf, emptyRegion, setTables, setField, setRegisters, setSequences, setGates, setSubck, setShutters}
 use Rattle.profile.specs.Bytes.{numberAt, dataAt}
+use Rattle.profile.specs.Layout.{halfLimit}
 use Rattle.profile.specs.Ranges.{sequenceRange, gateRange, subckRange, shutterRange, fieldRange, regionRange}
 use Rattle.profile.specs.Script.{
   headLength,
@@ -64,18 +65,9 @@ unfolding all
 all-front true l = refl
 all-front false l = refl
 
--- a number that passed its test, which was joined with another: an item's, and a register's address, of which each half has a place
-passed-limit : (n k : ℕ) (r : Bool) → not (leb n k && r) ≡ false → n ≤ k
-passed-limit n k r e = leb-true n k (and-left (leb n k) r (not-false _ e))
-
+-- an item's number that passed its test, which was joined with those of the item
 pub passed-below : (n k m : ℕ) (r : Bool) → not (leb n k && r) ≡ false → suc k ≡ m → n < m
-passed-below n k m r e h = omega (arith, passed-limit n k r e)
-
-pub passed-low : (n : ℕ) (r : Bool) → not (leb n 119 && r) ≡ false → 2 * n < 240
-passed-low n r e = omega (arith, passed-limit n 119 r e)
-
-pub passed-high : (n : ℕ) (r : Bool) → not (leb n 119 && r) ≡ false → 2 * n + 1 < 240
-passed-high n r e = omega (arith, passed-limit n 119 r e)
+passed-below n k m r e h = omega (arith, leb-true n k (and-left (leb n k) r (not-false _ e)))
 
 -- ---- a kind
 
@@ -138,17 +130,22 @@ module _ (b : List ℕ) (t : Tables) (n : ℕ) where
 pub subck-set : (b : List ℕ) (t : Tables) (s : Subck) → s ≡ subckFrom b → setSubck s t ≡ withSubck b t
 subck-set b t s es = rw es
 
--- a register: of a pattern's word 0 bits 6..11 are 0
-pub register-test : (b : List ℕ) (a v : ℕ) → a ≡ getD b 0 0 → v ≡ dataAt b 1
-    → leb a 119 && (not (eqb (a % 12) 0) || eqb (v / 64 % 64) 0) ≡ registerFits b
-unfolding registerFits
-register-test b a v ea ev = rw (ea, ev) (joined-all _ _)
+-- a register: its address, then its halves
+pub register-past : (b : List ℕ) (a : ℕ) → a ≡ getD b 0 0 → 119 < a → false ≡ registerFits b
+unfolding registerFits all
+register-past b a ea h = rw (← ea, lt-leb a 119 h)
+
+pub register-test : (b : List ℕ) (a v : ℕ) {x y : Bool} → a ≡ getD b 0 0 → v ≡ dataAt b 1 → a ≤ 119 → x ≡ leb (v % 4096) (halfLimit (2 * a))
+    → y ≡ leb (v / 4096) (halfLimit (2 * a + 1)) → x && y ≡ registerFits b
+unfolding registerFits all
+register-test b a v ea ev h ex ey = rw (ex, ey, ← ea, ← ev, le-leb a 119 h)
+    (joined-all (leb (v % 4096) (halfLimit (2 * a))) (leb (v / 4096) (halfLimit (2 * a + 1)) ∷ []))
 
 pub register-set : (b : List ℕ) (t : Tables) (a v : ℕ) → a ≡ getD b 0 0 → v ≡ dataAt b 1
     → setRegisters (set (set (t .registers) (2 * a) (v % 4096)) (2 * a + 1) (v / 4096)) t ≡ withRegister b t
 register-set b t a v ea ev = rw (ea, ev)
 
-pub ruleset reading = (passed-below, passed-low, passed-high, register-set, body-no, body-yes, sequence-set, gate-set, shutter-set, subck-set, sequence-test, gate-test, shutter-test, subck-test, register-test)
+pub ruleset reading = (passed-below, body-no, body-yes, sequence-set, gate-set, shutter-set, subck-set, sequence-test, gate-test, shutter-test, subck-test)
 
 -- ---- a field's regions
 

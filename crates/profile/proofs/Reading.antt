@@ -10,7 +10,7 @@ use borrow.Author.Tests.{eqb-true, eqb-false, eq-eqb, ne-eqb}
 use lib.Dec.{leb}
 use lib.ListN.{length}
 use Rattle.profile.specs.Lists.{all, chunks}
-use Rattle.profile.specs.Bytes.{Bytes, numberAt}
+use Rattle.profile.specs.Bytes.{numberAt}
 use Rattle.profile.specs.Values.{
   Sized,
   emptyField,
@@ -21,6 +21,7 @@ use Rattle.profile.specs.Values.{
   accepts,
   readAnswer,
 }
+use Rattle.profile.specs.Layout.{halfPart}
 use Rattle.profile.specs.Ranges.{sequenceIn, regionIn, headIn, gateIn, subckIn, shutterIn, inRange}
 use Rattle.profile.specs.Rules.{judge, checkProfile}
 use Rattle.profile.specs.Script.{mostBytes, bodyOf, Stepped, stop, next, step, afterFirst, records, judged, readScript}
@@ -31,7 +32,6 @@ use Rattle.profile.proofs.Laws.{cond-case}
 use Rattle.profile.proofs.Checked.{check-judge, judge-number}
 use Rattle.profile.proofs.Takes.{step-taken}
 use Rattle.profile.proofs.Items.{items, items-in}
-use Rattle.profile.proofs.ByteRange.{bytes-tail, bytes-part}
 use Rattle.profile.proofs.Puts.{with-sized, with-items}
 
 -- ---- one record taken
@@ -41,33 +41,32 @@ step-sized s p len q z e =
     let t = step-taken s p len q e in
     rw (t .gives) at (with-sized (numberAt s 2) (bodyOf s) p z (t .values))
 
-pub step-in : (s : List ℕ) (p : Profile) (len : ℕ) (q : Profile) → Bytes s → inRange p ≡ true → step s p ≡ next len q → inRange q ≡ true
-step-in s p len q b r e =
+pub step-in : (s : List ℕ) (p : Profile) (len : ℕ) (q : Profile) → inRange p ≡ true → step s p ≡ next len q → inRange q ≡ true
+step-in s p len q r e =
     let t = step-taken s p len q e in
-    let w = with-items (numberAt s 2) (bodyOf s) p (bytes-part s (numberAt s 0) 4 b) (items p r) (t .values) in
+    let w = with-items (numberAt s 2) (bodyOf s) p (items p r) (t .values) in
     items-in q (rw (t .gives) at w)
 
 -- ---- all records
 
--- P of the profile is kept by each record of a script of which B holds, and gives Q of the answer
-module _ (B : List ℕ → Type 0) (P : Profile → Type 0) (Q : ReadAnswer → Type 0)
-    (tail : (x : ℕ) (xs : List ℕ) → B (x ∷ xs) → B xs)
-    (keeps : (s : List ℕ) (p : Profile) (len : ℕ) (q : Profile) → B s → P p → step s p ≡ next len q → P q)
+-- P of the profile is kept by each record, and gives Q of the answer
+module _ (P : Profile → Type 0) (Q : ReadAnswer → Type 0)
+    (keeps : (s : List ℕ) (p : Profile) (len : ℕ) (q : Profile) → P p → step s p ≡ next len q → P q)
     (ends : (v : Verdict) (p : Profile) → P p → Q (readAnswer v p)) where
   -- the record at the front, by what its step is; on is the rest
-  one : (x : ℕ) (xs : List ℕ) (at : ℕ) (p : Profile) → B (x ∷ xs) → P p
+  one : (x : ℕ) (xs : List ℕ) (at : ℕ) (p : Profile) → P p
       → ((skip at : ℕ) (q : Profile) → P q → Q (records skip at xs q))
       → (r : Stepped) → step (x ∷ xs) p ≡ r → Q (records 0 at (x ∷ xs) p)
   unfolding records
-  one x xs at p b h on (stop n) e = rw (e, records) (ends (refused n at) p h)
-  one x xs at p b h on (next len q) e = rw (e, records) (on (afterFirst len) (at + 1) q (keeps (x ∷ xs) p len q b h e))
+  one x xs at p h on (stop n) e = rw (e, records) (ends (refused n at) p h)
+  one x xs at p h on (next len q) e = rw (e, records) (on (afterFirst len) (at + 1) q (keeps (x ∷ xs) p len q h e))
 
-  records-all : (s : List ℕ) (skip at : ℕ) (p : Profile) → B s → P p → Q (records skip at s p)
+  records-all : (s : List ℕ) (skip at : ℕ) (p : Profile) → P p → Q (records skip at s p)
   unfolding records
-  records-all [] skip at p b h = ends accepted p h
-  records-all (x ∷ xs) zero at p b h =
-      one x xs at p b h (λ skip at q. records-all xs skip at q (tail x xs b)) (step (x ∷ xs) p) refl
-  records-all (x ∷ xs) (suc skip) at p b h = records-all xs skip (at + 1) p (tail x xs b) h
+  records-all [] skip at p h = ends accepted p h
+  records-all (x ∷ xs) zero at p h =
+      one x xs at p h (λ skip at q. records-all xs skip at q) (step (x ∷ xs) p) refl
+  records-all (x ∷ xs) (suc skip) at p h = records-all xs skip (at + 1) p h
 
 -- ---- the profile of an answer
 
@@ -76,7 +75,7 @@ unfolding emptyTables emptyField
 empty-sized = record { registers = refl; sequences = refl; gates = refl; shutters = refl; regions = refl }
 
 pub empty-in : inRange emptyProfile ≡ true
-unfolding emptyTables emptyField inRange all chunks sequenceIn regionIn headIn gateIn subckIn shutterIn
+unfolding emptyTables emptyField inRange all chunks halfPart sequenceIn regionIn headIn gateIn subckIn shutterIn
 empty-in = refl
 
 -- an answer's profile is the one at hand or the empty one
@@ -85,13 +84,11 @@ answer-case P z v p h = cond-case P (accepts v) p emptyProfile (λ e. h) (λ e. 
 
 pub records-sized : (s : List ℕ) (skip at : ℕ) (p : Profile) → Sized p → Sized (records skip at s p .profile)
 records-sized s skip at p z =
-    records-all (λ s. Unit {0}) Sized (λ r. Sized (r .profile)) (λ x xs u. tt)
-    (λ s p len q u h e. step-sized s p len q h e) (answer-case Sized empty-sized) s skip at p tt z
+    records-all Sized (λ r. Sized (r .profile)) step-sized (answer-case Sized empty-sized) s skip at p z
 
-pub records-in : (s : List ℕ) (skip at : ℕ) (p : Profile) → Bytes s → inRange p ≡ true → inRange (records skip at s p .profile) ≡ true
-records-in s skip at p b r =
-    records-all Bytes (λ p. inRange p ≡ true) (λ r. inRange (r .profile) ≡ true) (λ x xs b. bytes-tail b)
-    step-in (answer-case (λ p. inRange p ≡ true) empty-in) s skip at p b r
+pub records-in : (s : List ℕ) (skip at : ℕ) (p : Profile) → inRange p ≡ true → inRange (records skip at s p .profile) ≡ true
+records-in s skip at p r =
+    records-all (λ p. inRange p ≡ true) (λ r. inRange (r .profile) ≡ true) step-in (answer-case (λ p. inRange p ≡ true) empty-in) s skip at p r
 
 -- ---- a refused answer
 
@@ -104,7 +101,7 @@ answer-emptied v p h = rw (ne-eqb (v .number) 0 h)
 
 records-emptied : (s : List ℕ) (skip at : ℕ) (p : Profile) → Emptied (records skip at s p)
 records-emptied s skip at p =
-    records-all (λ s. Unit {0}) (λ p. Unit {0}) Emptied (λ x xs u. tt) (λ s p len q u h e. tt) (λ v p u. answer-emptied v p) s skip at p tt tt
+    records-all (λ p. Unit {0}) Emptied (λ s p len q h e. tt) (λ v p u. answer-emptied v p) s skip at p tt
 
 -- ---- the whole read
 
@@ -137,9 +134,9 @@ module _ (s : List ℕ) where
       let z = records-sized s 0 0 emptyProfile empty-sized in
       read-case (λ r. Sized (r .profile)) empty-sized (λ e. z) (λ e. answer-case Sized empty-sized (judge (taken .profile)) (taken .profile) z)
 
-  pub read-in : Bytes s → inRange (readScript s .profile) ≡ true
-  read-in b =
-      let z = records-in s 0 0 emptyProfile b empty-in in
+  pub read-in : inRange (readScript s .profile) ≡ true
+  read-in =
+      let z = records-in s 0 0 emptyProfile empty-in in
       read-case (λ r. inRange (r .profile) ≡ true) empty-in (λ e. z)
       (λ e. answer-case (λ p. inRange p ≡ true) empty-in (judge (taken .profile)) (taken .profile) z)
 
@@ -148,10 +145,10 @@ module _ (s : List ℕ) where
       read-case Emptied (answer-emptied (refused 1 0) emptyProfile) (λ e. records-emptied s 0 0 emptyProfile)
       (λ e. answer-emptied (judge (taken .profile)) (taken .profile))
 
-  pub read-accepted : Bytes s → readScript s .verdict .number ≡ 0 → checkProfile (readScript s .profile) ≡ accepted
-  read-accepted b =
+  pub read-accepted : readScript s .verdict .number ≡ 0 → checkProfile (readScript s .profile) ≡ accepted
+  read-accepted =
       read-case (λ r. r .verdict .number ≡ 0 → checkProfile (r .profile) ≡ accepted) (λ e. absurd (omega arith)) (λ n e. absurd (n e))
-      (λ n. judged-accepted (taken .profile) (records-in s 0 0 emptyProfile b empty-in))
+      (λ n. judged-accepted (taken .profile) (records-in s 0 0 emptyProfile empty-in))
 
   -- no other verdict has the number 0
   pub read-verdict : readScript s .verdict .number ≡ 0 → readScript s .verdict ≡ accepted

@@ -4,23 +4,26 @@ use Prim.Native.Nat.{ℕ, zero, suc, _+_, _-_, _*_, _/_, _%_, _≤_, _<_}
 use native.Mathlib.Omega.{arith}
 use mathlib.Core.Path.{_≡_, refl, sym, ap, subst, _∙_}
 use mathlib.Core.Logic.{_↔_, _⊎_, inl, inr}
-use mathlib.Core.Bool.{Bool, true, false, not, _||_, false≢true}
+use mathlib.Core.Bool.{Bool, true, false, false≢true}
 use mathlib.Core.List.{List, [], _∷_, _++_, append-assoc, append-nil}
 use lib.ListN.{length, getD, drop, length-append, take-append-drop, length-drop}
 use lib.Seq.{length-take-le}
 use lib.Dec.{ltb, leb, eqb}
 use borrow.Author.Tests.{ltb-true, ltb-false, leb-true, leb-false, eqb-true, lt-ltb, le-ltb, le-leb, lt-leb, eq-eqb, ne-eqb}
 use Rattle.profile.specs.Lists.{all}
-use Rattle.profile.specs.Bytes.{Bytes, numberAt, dataAt, twoBytes}
+use Rattle.profile.specs.Bytes.{Bytes, numberAt, twoBytes}
 use Rattle.profile.specs.Values.{emptyProfile, accepted, refused, readAnswer}
+use Rattle.profile.specs.Layout.{halfLimit}
 use Rattle.profile.specs.Ranges.{sequenceRange, fieldRange, gateRange, shutterRange, inRange}
-use Rattle.profile.specs.Obeys.{SequenceRanged, GateRanged, ShutterRanged}
+use Rattle.profile.specs.Obeys.{HalfRanged, SequenceRanged, GateRanged, ShutterRanged}
 use Rattle.profile.specs.Rules.{checkProfile}
 use Rattle.profile.specs.Script.{
   kinds,
   headLength,
   regionLength,
   mostBytes,
+  lowFrom,
+  highFrom,
   registerFits,
   sequenceFits,
   fieldFits,
@@ -84,10 +87,10 @@ use Rattle.profile.specs.declared.Profile.{Profile}
 use Rattle.profile.specs.declared.Verdict.{Verdict}
 use Rattle.profile.specs.declared.ReadAnswer.{ReadAnswer}
 use Rattle.profile.proofs.Laws.{by-cases, and-left, and-right, and-intro, passed, all-passed, all-chunks, chunks-all}
-use Rattle.profile.proofs.Reflects.{Says, says-le, says-eq, says-and, says-where}
+use Rattle.profile.proofs.Reflects.{Says, says-le, says-eq, says-and}
 use Rattle.profile.proofs.Checked.{check-judge}
 use Rattle.profile.proofs.Accepted.{Judged, check-judged, accepted-exactly, refused-exactly, broken-number}
-use Rattle.profile.proofs.Carried.{sequence-says, gate-says, subck-says, shutter-says, field-says}
+use Rattle.profile.proofs.Carried.{says-half, sequence-says, gate-says, subck-says, shutter-says, field-says}
 use Rattle.profile.proofs.Takes.{Takes, takes-none, takes-then, takes-all, records-stop}
 use Rattle.profile.proofs.Bodies.{takes-written}
 use Rattle.profile.proofs.ByteRange.{bytes-tail}
@@ -155,13 +158,15 @@ module _ (b : List ℕ) where
     λ w. all-passed (leb n top ∷ tests) (le-leb n top (w .0), passed tests (s .1 (w .1))),
   )
 
-  says-register : Says (registerFits b) ((getD b 0 0 ≤ 0x77) × (getD b 0 0 % 12 ≡ 0 → dataAt b 1 / 64 % 64 ≡ 0))
+  abbrev low : ℕ
+  low = 2 * getD b 0 0
+
+  says-register : Says (registerFits b) ((getD b 0 0 ≤ 0x77) × HalfRanged low (lowFrom b) × HalfRanged (low + 1) (highFrom b))
   unfolding registerFits
   says-register =
-      let tests = leb (getD b 0 0) 0x77 ∷ (not (eqb (getD b 0 0 % 12) 0) || eqb (dataAt b 1 / 64 % 64) 0) ∷ [] in
-      let word = says-where (says-eq (getD b 0 0 % 12) 0) (says-eq (dataAt b 1 / 64 % 64) 0) in (
-        (λ e. let w = passed tests e in (leb-true _ _ (w .0), word .0 (w .1 .0))),
-        λ w. all-passed tests (le-leb _ _ (w .0), (word .1 (w .1), tt)),
+      let tests = leb (getD b 0 0) 0x77 ∷ leb (lowFrom b) (halfLimit low) ∷ leb (highFrom b) (halfLimit (low + 1)) ∷ [] in (
+        (λ e. let w = passed tests e in (leb-true _ _ (w .0), says-half low (lowFrom b) .0 (w .1 .0), says-half (low + 1) (highFrom b) .0 (w .1 .1 .0))),
+        λ w. all-passed tests (le-leb _ _ (w .0), (says-half low (lowFrom b) .1 (w .1), (says-half (low + 1) (highFrom b) .1 (w .2), tt))),
       )
 
   says-sequence : Says (sequenceFits b) ((numberAt b 0 ≤ 9) × SequenceRanged (sequenceFrom b))
@@ -178,7 +183,7 @@ module _ (b : List ℕ) where
 
   pub fits-test : (k : ℕ) → Fits b k → fits k b ≡ true
   unfolding fits fieldFits subckFits
-  fits-test k (register-fits h w) = says-register .1 (h, w)
+  fits-test k (register-fits h l u) = says-register .1 (h, l, u)
   fits-test k (sequence-fits h w) = says-sequence .1 (h, w)
   fits-test k (field-fits h w r) =
       and-intro
@@ -192,7 +197,7 @@ module _ (b : List ℕ) where
   test-fits : (k : ℕ) → Known k → fits k b ≡ true → Fits b k
   unfolding fits fieldFits subckFits
   test-fits zero h e = absurd (omega arith)
-  test-fits (suc zero) h e = let w = says-register .0 e in register-fits (w .0) (w .1)
+  test-fits (suc zero) h e = let w = says-register .0 e in register-fits (w .0) (w .1) (w .2)
   test-fits (suc (suc zero)) h e = let w = says-sequence .0 e in sequence-fits (w .0) (w .1)
   test-fits (suc (suc (suc zero))) h e =
       let tests = eqb (headLength + regionLength * numberAt b 8) (length b) ∷ fieldRange (fieldFrom b) in
@@ -393,32 +398,32 @@ unfolding readScript
 short-read s h = rw (le-leb (length s) mostBytes h)
 
 -- whole records are judged by the check of what they give
-whole-read : (s : List ℕ) → Bytes s → (rs : List Record) → length s ≤ mostBytes → s ≡ scriptOf rs
+whole-read : (s : List ℕ) (rs : List Record) → length s ≤ mostBytes → s ≡ scriptOf rs
     → readScript s ≡ readAnswer (checkProfile (profileOf rs)) (profileOf rs)
-whole-read s b rs h e =
+whole-read s rs h e =
     let q = profileOf rs in
     let r : records 0 0 s emptyProfile ≡ readAnswer accepted q = ap (λ (l : List ℕ). records 0 0 l emptyProfile) e ∙ takes-all (scriptOf rs) emptyProfile q (takes-many rs emptyProfile) in
-    let i : inRange q ≡ true = subst (λ (x : ReadAnswer). inRange (x .profile) ≡ true) r (records-in s 0 0 emptyProfile b empty-in) in
+    let i : inRange q ≡ true = subst (λ (x : ReadAnswer). inRange (x .profile) ≡ true) r (records-in s 0 0 emptyProfile empty-in) in
     short-read s h ∙ ap judged r ∙ ap (λ (v : Verdict). readAnswer v q) (sym (check-judge q i))
 
 -- there is no other answer
-reads-one : (s : List ℕ) → Bytes s → (a : ReadAnswer) → Reads s a → readScript s ≡ a
+reads-one : (s : List ℕ) (a : ReadAnswer) → Reads s a → readScript s ≡ a
 unfolding readScript
-reads-one s b a (too-long h) = rw (lt-leb (length s) mostBytes h)
-reads-one s b a (stopped rs rest n h e f) =
+reads-one s a (too-long h) = rw (lt-leb (length s) mostBytes h)
+reads-one s a (stopped rs rest n h e f) =
     let at = length (scriptOf rs) in
     let some = fault-some rest n f .1 in
     short-read s h
     ∙ ap (λ (l : List ℕ). judged (records 0 0 l emptyProfile)) e
     ∙ ap judged (records-rest rs rest ∙ records-fault rest at n (profileOf rs) f ∙ refused-empty (refused n at) (profileOf rs) some)
     ∙ judged-refused (refused n at) some
-reads-one s b a (broken rs v h e f) =
+reads-one s a (broken rs v h e f) =
     let some = broken-number (profileOf rs) v f in
-    whole-read s b rs h e
+    whole-read s rs h e
     ∙ ap (λ (w : Verdict). readAnswer w (profileOf rs)) (refused-exactly (profileOf rs) v some .1 f)
     ∙ refused-empty v (profileOf rs) some
-reads-one s b a (obeyed rs h e f) =
-    whole-read s b rs h e ∙ ap (λ (v : Verdict). readAnswer v (profileOf rs)) (accepted-exactly (profileOf rs) .1 f)
+reads-one s a (obeyed rs h e f) =
+    whole-read s rs h e ∙ ap (λ (v : Verdict). readAnswer v (profileOf rs)) (accepted-exactly (profileOf rs) .1 f)
 
 -- there is an answer
 reads-whole : (s : List ℕ) (rs : List Record) → length s ≤ mostBytes → s ≡ scriptOf rs → Judged (profileOf rs) (checkProfile (profileOf rs))
@@ -445,4 +450,4 @@ reads-some s b =
 pub read-exactly : (s : List ℕ) → Bytes s → (a : ReadAnswer) → (readScript s ≡ a) ↔ Reads s a
 read-exactly s b a =
     let w = reads-some s b in
-    ((λ e. subst (λ (x : ReadAnswer). Reads s x) (sym (reads-one s b (w .0) (w .1)) ∙ e) (w .1)), reads-one s b a)
+    ((λ e. subst (λ (x : ReadAnswer). Reads s x) (sym (reads-one s (w .0) (w .1)) ∙ e) (w .1)), reads-one s a)

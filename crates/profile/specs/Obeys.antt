@@ -12,7 +12,8 @@ use lib.ListN.{getD}
 use lib.Dec.{ltb, leb}
 use Rattle.profile.specs.Lists.{Each}
 use Rattle.profile.specs.Values.{emptyRegion, emptySequence, emptyGate, emptySubck, emptyShutter, refused}
-use Rattle.profile.specs.Patterns.{halfOf, rowOf}
+use Rattle.profile.specs.Layout.{halfPart}
+use Rattle.profile.specs.Patterns.{rowOf}
 use Rattle.profile.specs.Geometry.{
   regionCount,
   regionAt,
@@ -29,6 +30,7 @@ use Rattle.profile.specs.Geometry.{
   gateLines,
 }
 use Rattle.profile.specs.Rules.{secondOf, fieldsOf}
+use Rattle.profile.specs.declared.layout.Part.the-variants.{Levels}
 use Rattle.profile.specs.declared.Mode.{Mode}
 use Rattle.profile.specs.declared.Mode.the-variants.{Plain, Sweep, Multiplier}
 use Rattle.profile.specs.declared.Region.{Region}
@@ -43,6 +45,11 @@ use Rattle.profile.specs.declared.Profile.{Profile}
 use Rattle.profile.specs.declared.Verdict.{Verdict}
 
 -- ---- ranges: what a record can carry; an absent item is all zeros
+
+-- number x as half register i: it has twelve bits; of start levels "bits 6..11 must be 0"
+pub record HalfRanged (i x : ℕ) : Type 0 where
+  pub bits : x ≤ 4095
+  pub levels : halfPart i ≡ Levels → x ≤ 63
 
 pub record SequenceRanged (s : Sequence) : Type 0 where
   pub pattern : s .pattern ≤ 9
@@ -111,8 +118,7 @@ abbrev pub ShutterIn : Shutter → Type 0
 ShutterIn s = Given (s .present) (ShutterRanged s) (s ≡ emptyShutter)
 
 pub record Ranged (p : Profile) : Type 0 where
-  pub halves : (i : ℕ) → i < 240 → getD (p .tables .registers) i 0 ≤ 4095
-  pub start-levels : (k : ℕ) → k < 10 → halfOf (p .tables .registers) k 0 ≤ 63
+  pub halves : (i : ℕ) → i < 240 → HalfRanged i (getD (p .tables .registers) i 0)
   pub sequences : (k : ℕ) → k < 10 → SequenceIn (sequenceOf (p .tables) k)
   pub gates : (k : ℕ) → k < 5 → GateIn (gateOf (p .tables) k)
   pub subck : SubckIn (p .tables .subck)

@@ -3,38 +3,60 @@
 use Prim.Native.Nat.{ℕ, zero, suc, _+_, _-_, _*_, max}
 use mathlib.Core.List.{List, [], _∷_}
 use mathlib.Core.Bool.{Bool, true, false, cond, not, _&&_, _||_}
-use lib.ListN.{getD}
+use lib.ListN.{getD, set, replicate}
 use lib.Dec.{ltb, eqb}
+use Rattle.profile.specs.Layout.{halfPattern, halfPart}
+use Rattle.profile.specs.declared.layout.Part.{Part}
+use Rattle.profile.specs.declared.layout.Part.the-variants.{Levels, Length, Toggle, Freeze, Resume}
 use Rattle.profile.specs.declared.Mode.{Mode}
 use Rattle.profile.specs.declared.Mode.the-variants.{Plain, Sweep, Multiplier}
 use Rattle.profile.specs.declared.Pattern.{Pattern}
 
--- half register j of pattern k: "Pattern k has 12 registers from address 12k", so 24 halves from 24k, low half first
-abbrev pub halfOf : List ℕ → ℕ → ℕ → ℕ
-halfOf registers k j = getD registers (24 * k + j) 0
+-- a pattern of its parts
+abbrev pub ofParts : ℕ → ℕ → List ℕ → ℕ → ℕ → ℕ → ℕ → Pattern
+ofParts levels length toggles f1 r1 f2 r2 =
+    record { levels = levels; length = length; toggles = toggles; freeze1 = f1; resume1 = r1; freeze2 = f2; resume2 = r2 }
 
--- "Word 0: bits 0..5 start levels, bits 12..23 length. Words 1..9: the 18 toggles. Words 10, 11: freeze 1, resume 1, freeze 2, resume 2."
-abbrev pub patternFrom : (ℕ → ℕ) → Pattern
-patternFrom half =
-    record {
-      levels = half 0;
-      length = half 1;
-      toggles =
-          half 2 ∷ half 3 ∷ half 4 ∷ half 5 ∷ half 6 ∷ half 7
-          ∷ half 8 ∷ half 9 ∷ half 10 ∷ half 11 ∷ half 12 ∷ half 13
-          ∷ half 14 ∷ half 15 ∷ half 16 ∷ half 17 ∷ half 18 ∷ half 19 ∷ [];
-      freeze1 = half 20;
-      resume1 = half 21;
-      freeze2 = half 22;
-      resume2 = half 23;
-    }
+-- all zeros
+abbrev pub emptyPattern : Pattern
+emptyPattern = ofParts 0 0 (replicate 18 0) 0 0 0 0
 
+-- "the 18 toggles V1 first to V6 third": where those of output k stand, V1 being output 0
+abbrev pub rowStart : ℕ → ℕ
+rowStart k = 3 * k
+
+-- toggles with one replaced, output and toggle counted from 1
+abbrev pub withToggle : ℕ → ℕ → ℕ → List ℕ → List ℕ
+withToggle output toggle x toggles = set toggles (rowStart (output - 1) + (toggle - 1)) x
+
+-- a pattern with one part replaced; a pair other than the first is the second
+unfoldable pub withPart : Part → ℕ → Pattern → Pattern
+withPart Levels x a = ofParts x (a .length) (a .toggles) (a .freeze1) (a .resume1) (a .freeze2) (a .resume2)
+withPart Length x a = ofParts (a .levels) x (a .toggles) (a .freeze1) (a .resume1) (a .freeze2) (a .resume2)
+withPart (Toggle output toggle) x a =
+    ofParts (a .levels) (a .length) (withToggle output toggle x (a .toggles)) (a .freeze1) (a .resume1) (a .freeze2) (a .resume2)
+withPart (Freeze pair) x a =
+    cond (eqb pair 1)
+    (ofParts (a .levels) (a .length) (a .toggles) x (a .resume1) (a .freeze2) (a .resume2))
+    (ofParts (a .levels) (a .length) (a .toggles) (a .freeze1) (a .resume1) x (a .resume2))
+withPart (Resume pair) x a =
+    cond (eqb pair 1)
+    (ofParts (a .levels) (a .length) (a .toggles) (a .freeze1) x (a .freeze2) (a .resume2))
+    (ofParts (a .levels) (a .length) (a .toggles) (a .freeze1) (a .resume1) (a .freeze2) x)
+
+-- pattern k out of the first n half registers: each that is of pattern k goes into its part
+unfoldable pub patternUpTo : List ℕ → ℕ → ℕ → Pattern
+patternUpTo registers k zero = emptyPattern
+patternUpTo registers k (suc n) =
+    cond (eqb (halfPattern n) k) (withPart (halfPart n) (getD registers n 0) (patternUpTo registers k n)) (patternUpTo registers k n)
+
+-- out of all
 unfoldable pub patternOf : List ℕ → ℕ → Pattern
-patternOf registers k = patternFrom (halfOf registers k)
+patternOf registers k = patternUpTo registers k 240
 
--- "A pattern is six outputs of three toggles each": the three toggles of output k, V1 being output 0
+-- "A pattern is six outputs of three toggles each": the three toggles of output k
 abbrev pub rowOf : List ℕ → ℕ → List ℕ
-rowOf toggles k = getD toggles (3 * k) 0 ∷ getD toggles (3 * k + 1) 0 ∷ getD toggles (3 * k + 2) 0 ∷ []
+rowOf toggles k = getD toggles (rowStart k) 0 ∷ getD toggles (rowStart k + 1) 0 ∷ getD toggles (rowStart k + 2) 0 ∷ []
 
 -- all six
 abbrev pub rowsOf : List ℕ → List (List ℕ)

@@ -1,12 +1,13 @@
 -- What a record can carry: the ranges of each item, of a record read and of a profile handed in.
 -- Assumes nothing.
-use Prim.Native.Nat.{ℕ, _%_}
+use Prim.Native.Nat.{ℕ}
 use mathlib.Core.List.{List, [], _∷_, map}
 use mathlib.Core.Bool.{Bool, cond, _&&_, _||_}
 use lib.ListN.{getD}
 use lib.Dec.{ltb, leb, eqb}
 use Rattle.profile.specs.Lists.{all, chunks}
 use Rattle.profile.specs.Values.{emptySequence, emptyGate, emptyShutter}
+use Rattle.profile.specs.Layout.{halfLimit}
 use Rattle.profile.specs.Patterns.{isPlain}
 use Rattle.profile.specs.Geometry.{regionAt}
 use Rattle.profile.specs.declared.Region.{Region}
@@ -16,10 +17,6 @@ use Rattle.profile.specs.declared.Gate.{Gate}
 use Rattle.profile.specs.declared.Subck.{Subck}
 use Rattle.profile.specs.declared.Shutter.{Shutter}
 use Rattle.profile.specs.declared.Profile.{Profile}
-
--- half register i: 12 bits, and the start levels' half 6
-abbrev pub halfLimit : ℕ → ℕ
-halfLimit i = cond (eqb (i % 24) 0) 63 4095
 
 -- Kind 2: "pattern 0..9, line length 1..4095, start 0..4095, odd repetitions 0..4095, even repetitions 0..4095, mask 0..3"
 abbrev pub sequenceRange : Sequence → List Bool

@@ -2,19 +2,21 @@
 -- are none. That reading gives exactly these answers is a theorem (proofs/Scripts.antt), so that no record can be passed over, taken twice or out
 -- of order, and no fault can have another number, place or turn.
 -- Assumes nothing.
-use Prim.Native.Nat.{ℕ, _+_, _*_, _/_, _%_, _≤_, _<_}
+use Prim.Native.Nat.{ℕ, _+_, _*_, _≤_, _<_}
 use mathlib.Core.Path.{_≡_}
 use mathlib.Core.List.{List, [], _∷_, _++_}
 use lib.ListN.{length, getD}
 use Rattle.profile.specs.Lists.{Each}
-use Rattle.profile.specs.Bytes.{numberAt, dataAt, recordOf}
+use Rattle.profile.specs.Bytes.{numberAt, recordOf}
 use Rattle.profile.specs.Values.{emptySequence, emptyGate, emptyShutter, emptyProfile, accepted, refused}
-use Rattle.profile.specs.Obeys.{SequenceRanged, FieldRanged, GateRanged, SubckRanged, ShutterRanged, Rule, FirstBroken}
+use Rattle.profile.specs.Obeys.{HalfRanged, SequenceRanged, FieldRanged, GateRanged, SubckRanged, ShutterRanged, Rule, FirstBroken}
 use Rattle.profile.specs.Script.{
   kinds,
   headLength,
   regionLength,
   mostBytes,
+  lowFrom,
+  highFrom,
   sequenceFrom,
   regionStart,
   fieldFrom,
@@ -48,7 +50,7 @@ RegionFits b i =
 
 -- the values that a body of each kind can have
 pub data Fits (b : List ℕ) : ℕ → Type 0 where
-  register-fits : getD b 0 0 ≤ 0x77 → (getD b 0 0 % 12 ≡ 0 → dataAt b 1 / 64 % 64 ≡ 0) → Fits b 1
+  register-fits : getD b 0 0 ≤ 0x77 → HalfRanged (2 * getD b 0 0) (lowFrom b) → HalfRanged (2 * getD b 0 0 + 1) (highFrom b) → Fits b 1
   sequence-fits : numberAt b 0 ≤ 9 → SequenceRanged (sequenceFrom b) → Fits b 2
   field-fits : headLength + regionLength * numberAt b 8 ≡ length b → FieldRanged (fieldFrom b)
       → ((i : ℕ) → i < numberAt b 8 → RegionFits b i) → Fits b 3

@@ -2,7 +2,7 @@
 -- Assumes nothing.
 use Prim.Native.Nat.{ℕ, zero, suc, _+_, _-_, _*_, _/_, _%_}
 use mathlib.Core.List.{List, [], _∷_, _++_}
-use mathlib.Core.Bool.{Bool, true, cond, not, _&&_, _||_}
+use mathlib.Core.Bool.{Bool, true, cond, not, _&&_}
 use lib.ListN.{length, getD, take, drop, set, replicate}
 use lib.Dec.{ltb, leb, eqb}
 use Rattle.profile.specs.Lists.{all, chunks}
@@ -23,6 +23,7 @@ use Rattle.profile.specs.Values.{
   accepts,
   readAnswer,
 }
+use Rattle.profile.specs.Layout.{halfLimit}
 use Rattle.profile.specs.Ranges.{sequenceRange, fieldRange, regionRange, gateRange, subckRange, shutterRange}
 use Rattle.profile.specs.Rules.{judge}
 use Rattle.profile.specs.declared.Region.{Region}
@@ -50,14 +51,25 @@ regionLength = 6
 abbrev pub mostBytes : ℕ
 mostBytes = 16384
 
--- Kind 1, register: "address byte, 3 data bytes. Address 0x00 to 0x77"; of a pattern's word 0 "bits 6..11 must be 0 (else 5)"
-unfoldable pub registerFits : List ℕ → Bool
-registerFits b = all (leb (getD b 0 0) 0x77 ∷ (not (eqb (getD b 0 0 % 12) 0) || eqb (dataAt b 1 / 64 % 64) 0) ∷ [])
+-- Kind 1, register: "address byte, 3 data bytes": "low half (bits 0..11) then high half (bits 12..23)"
+abbrev pub lowFrom : List ℕ → ℕ
+lowFrom b = dataAt b 1 % 4096
 
--- "low half (bits 0..11) then high half (bits 12..23)"
+abbrev pub highFrom : List ℕ → ℕ
+highFrom b = dataAt b 1 / 4096
+
+-- "Address 0x00 to 0x77", and each half at most what its part can be (of start levels "bits 6..11 must be 0 (else 5)")
+unfoldable pub registerFits : List ℕ → Bool
+registerFits b =
+    all (
+    leb (getD b 0 0) 0x77
+    ∷ leb (lowFrom b) (halfLimit (2 * getD b 0 0))
+    ∷ leb (highFrom b) (halfLimit (2 * getD b 0 0 + 1))
+    ∷ []
+    )
+
 abbrev pub withRegister : List ℕ → Tables → Tables
-withRegister b t =
-    setRegisters (set (set (t .registers) (2 * getD b 0 0) (dataAt b 1 % 4096)) (2 * getD b 0 0 + 1) (dataAt b 1 / 4096)) t
+withRegister b t = setRegisters (set (set (t .registers) (2 * getD b 0 0) (lowFrom b)) (2 * getD b 0 0 + 1) (highFrom b)) t
 
 -- Kind 2, sequence: "number 0..9, pattern, line length, start, odd repetitions, even repetitions, mask"
 abbrev pub sequenceFrom : List ℕ → Sequence

@@ -1,6 +1,7 @@
 // Scripts and profiles. A profile is what a script carries: the 120 registers as 240 half registers, sequences, the field, gates, SUBCK and
 // shutters. Numbers are u16 as the records carry them, levels and on flags too (0 or 1); presence is a bool.
 mod geometry;
+mod layout;
 mod limits;
 mod patterns;
 mod ranges;
@@ -23,6 +24,7 @@ pub use geometry::repetitions;
 pub use geometry::sequence_at;
 pub use geometry::sequence_of;
 pub use geometry::shutter_of;
+pub use patterns::empty_pattern;
 pub use patterns::pattern_of;
 pub use patterns::rows_of;
 pub use records::read;
@@ -95,7 +97,7 @@ pub struct Shutter {
     pub off_pixel: u16,
 }
 
-// Pattern k's 24 half registers start at 24k. Shutter 0 is MSHUT, shutter 1 STROBE.
+// The half registers stand by address, low half first; the table of layout.rt says what each holds. Shutter 0 is MSHUT, shutter 1 STROBE.
 pub struct Tables {
     pub registers: [u16; 240],
     pub sequences: [Sequence; 10],

@@ -1,11 +1,20 @@
 // Patterns out of the half registers, and their toggles: which are used, their order, the highest.
 use crate::Mode;
 use crate::Pattern;
+use crate::layout::Part;
+use crate::layout::part_named;
+use crate::layout::pattern_named;
+use crate::layout::table;
 ghost use mathlib.Core.Path.{_≡_};
 ghost use mathlib.Core.List.{[]};
 ghost use Prim.Native.Nat.{max};
 ghost use lib.ListN.{getD};
+ghost use Rattle.profile.specs.Layout.{IsPart};
+ghost use Rattle.profile.specs.declared.layout.Part.the-variants.{Toggle, Freeze, Resume};
 ghost use Rattle.profile.specs.Patterns.{
+  emptyPattern,
+  withToggle,
+  withPart,
   patternOf,
   rowsOf,
   isPlain,
@@ -17,51 +26,99 @@ ghost use Rattle.profile.specs.Patterns.{
   highestUsed,
 };
 
-// Pattern k; all zeros where there is none.
+// A pattern of zeros.
+pub fn empty_pattern() -> Pattern
+    ensures { λ r. ⌜ r ≡ emptyPattern ⌝ }
+{
+    Pattern {
+        levels: 0,
+        length: 0,
+        toggles: [0u16; 18],
+        freeze1: 0,
+        resume1: 0,
+        freeze2: 0,
+        resume2: 0,
+    }
+}
+
+// Toggles with one replaced, output and toggle counted from 1.
+fn with_toggle(output: u16, toggle: u16, half: u16, toggles: [u16; 18]) -> [u16; 18]
+    requires { ⌜ IsPart (Toggle output toggle) ⌝ }
+    ensures { λ r. ⌜ r ≡ withToggle output toggle half toggles ⌝ }
+{
+    let mut after = toggles;
+    let at = 3 * (output - 1) + (toggle - 1);
+    after[at as usize] = half;
+    after
+}
+
+// A pattern with the freeze of a pair replaced.
+fn with_freeze(pair: u16, half: u16, pattern: Pattern) -> Pattern
+    ensures { λ r. ⌜ r ≡ withPart (Freeze pair) half pattern ⌝ }
+{
+    let mut after = pattern;
+    if pair == 1 {
+        after.freeze1 = half;
+    } else {
+        after.freeze2 = half;
+    }
+    after
+}
+
+// A pattern with the resume of a pair replaced.
+fn with_resume(pair: u16, half: u16, pattern: Pattern) -> Pattern
+    ensures { λ r. ⌜ r ≡ withPart (Resume pair) half pattern ⌝ }
+{
+    let mut after = pattern;
+    if pair == 1 {
+        after.resume1 = half;
+    } else {
+        after.resume2 = half;
+    }
+    after
+}
+
+// A pattern with one part replaced.
+fn with_part(part: Part, half: u16, pattern: Pattern) -> Pattern
+    requires { ⌜ IsPart part ⌝ }
+    ensures { λ r. ⌜ r ≡ withPart part half pattern ⌝ }
+{
+    let mut after = pattern;
+    match part {
+        Part::Levels => {
+            after.levels = half;
+            after
+        }
+        Part::Length => {
+            after.length = half;
+            after
+        }
+        Part::Toggle(output, toggle) => {
+            let toggles = pattern.toggles;
+            let new = with_toggle(output, toggle, half, toggles);
+            after.toggles = new;
+            after
+        }
+        Part::Freeze(pair) => with_freeze(pair, half, pattern),
+        Part::Resume(pair) => with_resume(pair, half, pattern),
+    }
+}
+
+// Pattern k: the half registers that the table gives to it, each in its part; all zeros where there is none.
 pub fn pattern_of(registers: [u16; 240], k: u16) -> Pattern
     ensures { λ r. ⌜ r ≡ patternOf registers k ⌝ }
 {
-    if 9 < k {
-        return Pattern {
-            levels: 0,
-            length: 0,
-            toggles: [0u16; 18],
-            freeze1: 0,
-            resume1: 0,
-            freeze2: 0,
-            resume2: 0,
-        };
+    let entries = table();
+    let mut pattern = empty_pattern();
+    let mut i = 0;
+    while i < 240 {
+        let entry = entries[i];
+        if pattern_named(entry) == k {
+            pattern = with_part(part_named(entry), registers[i], pattern);
+        }
+        i += 1;
     }
-    let b = 24 * (k as usize);
-    let t = [
-        registers[b + 2],
-        registers[b + 3],
-        registers[b + 4],
-        registers[b + 5],
-        registers[b + 6],
-        registers[b + 7],
-        registers[b + 8],
-        registers[b + 9],
-        registers[b + 10],
-        registers[b + 11],
-        registers[b + 12],
-        registers[b + 13],
-        registers[b + 14],
-        registers[b + 15],
-        registers[b + 16],
-        registers[b + 17],
-        registers[b + 18],
-        registers[b + 19],
-    ];
-    Pattern {
-        levels: registers[b],
-        length: registers[b + 1],
-        toggles: t,
-        freeze1: registers[b + 20],
-        resume1: registers[b + 21],
-        freeze2: registers[b + 22],
-        resume2: registers[b + 23],
-    }
+    pattern
 }
 
 // The toggles as six outputs of three.

@@ -5,6 +5,7 @@ use crate::Profile;
 use crate::Sequence;
 use crate::Shutter;
 use crate::Subck;
+use crate::layout::half_in;
 use crate::limits::field_in_range;
 use crate::limits::gate_in_range;
 use crate::limits::region_in_range;
@@ -14,10 +15,8 @@ use crate::limits::subck_in_range;
 use crate::patterns::is_plain;
 ghost use mathlib.Core.Path.{_≡_};
 ghost use Prim.Native.Nat.{_<_};
-ghost use lib.Dec.{leb};
 ghost use Rattle.profile.specs.Lists.{all, chunks};
 ghost use Rattle.profile.specs.Ranges.{
-  halfLimit,
   sequenceIn,
   regionIn,
   headIn,
@@ -32,17 +31,6 @@ ghost use Rattle.profile.specs.Ranges.{
   shutterTests,
   inRange,
 };
-
-// Half register i.
-fn half_in(i: usize, half: u16) -> bool
-    ensures { λ r. ⌜ r ≡ leb half (halfLimit i) ⌝ }
-{
-    if i % 24 == 0 {
-        half <= 63
-    } else {
-        half <= 4095
-    }
-}
 
 fn sequence_in(s: Sequence) -> bool
     ensures { λ r. ⌜ r ≡ sequenceIn s ⌝ }

@@ -11,6 +11,7 @@ use crate::Tables;
 use crate::Verdict;
 use crate::accept;
 use crate::empty;
+use crate::layout::half_in;
 use crate::limits::field_in_range;
 use crate::limits::gate_in_range;
 use crate::limits::region_in_range;
@@ -138,14 +139,19 @@ fn read_register(body: &[u8], profile: Profile) -> BodyAnswer
 {
     let address = wide(body[0]);
     let data = data_at(body, 1);
-    let fits = (address <= 119) & ((address % 12 != 0) | (data / 64 % 64 == 0));
-    if !fits {
+    if 119 < address {
         return unfit(profile);
     }
     let i = 2 * (address as usize);
+    let low = (data % 4096) as u16;
+    let high = (data / 4096) as u16;
+    let fits = half_in(i, low) & half_in(i + 1, high);
+    if !fits {
+        return unfit(profile);
+    }
     let mut tables = profile.tables;
-    tables.registers[i] = (data % 4096) as u16;
-    tables.registers[i + 1] = (data / 4096) as u16;
+    tables.registers[i] = low;
+    tables.registers[i + 1] = high;
     with_tables(tables, profile)
 }
 

@@ -1,7 +1,6 @@
 -- By the line's test; the numbers are cut, which changes nothing.
 -- Assumes nothing.
 use borrow.Author.Needs.{needs}
-use native.Mathlib.Omega.{arith}
 use Rattle.ask.proofs.Cutting.{level-asked}
 use Rattle.ask.proofs.Answering.{short-as, ask-wrong, ask-right}
 use Rattle.ask.proofs.answers.ask_level.Statement.{statement}
@@ -11,11 +10,10 @@ returns-2 : tie.Need-returns-2
 returns-2 c =
     let p = c .before .before in
     let i = p .before .before .before .before in
-    let k = i .before .before in
     ask-right _ _ _ (i .before .with-two .ensures) (i .if1 .left)
     (short-as (p .put-level .ensures)
     (rw (p .before .second-number .ensures, p .before .before .first-number .ensures)
-    (level-asked _ (λ n. omega (arith, k .shared-slice-known2 .given n)) _ _)))
+    (level-asked _ _ _)))
 
 pub ask-level-spec : {M : Type 1} → statement M
 ask-level-spec =

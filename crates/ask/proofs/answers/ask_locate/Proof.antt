@@ -1,7 +1,6 @@
 -- By the line's test; the number is cut, which changes nothing.
 -- Assumes nothing.
 use borrow.Author.Needs.{needs}
-use native.Mathlib.Omega.{arith}
 use Rattle.ask.proofs.Cutting.{locate-asked}
 use Rattle.ask.proofs.Answering.{short-as, ask-wrong, ask-right}
 use Rattle.ask.proofs.answers.ask_locate.Statement.{statement}
@@ -11,10 +10,9 @@ returns-2 : tie.Need-returns-2
 returns-2 c =
     let p = c .before .before in
     let i = p .before .before .before in
-    let k = i .before .before in
     ask-right _ _ _ (i .before .with-one .ensures) (i .if1 .left)
     (short-as (p .put-locate .ensures)
-    (rw (p .before .number-of .ensures) (locate-asked _ (λ n. omega (arith, k .shared-slice-known2 .given n)) _)))
+    (rw (p .before .number-of .ensures) (locate-asked _ _)))
 
 pub ask-locate-spec : {M : Type 1} → statement M
 ask-locate-spec =

@@ -1,28 +1,28 @@
--- A row's toggle is read out of the pattern's toggles at its place there; past the third toggle or the sixth output there is none, and the definition
--- reads 0.
+-- Among the six rows of a pattern's toggles, number k is the row of output k, and the toggle is read in that row. Past the third toggle the row has
+-- ended, and past the sixth output its row stands past the pattern's toggles: the definition reads 0 there.
 -- Assumes nothing.
-use Prim.Native.Nat.{ℕ, zero, suc, _+_, _*_, _≤_, _<_}
-use mathlib.Core.Path.{_≡_, refl, sym, ap, _∙_}
+use Prim.Native.Nat.{ℕ, _≤_}
+use mathlib.Core.Path.{_≡_, refl, sym, ap}
 use mathlib.Core.List.{List}
 use lib.ListN.{length, getD, List·getD-eq-default}
 use native.Mathlib.Omega.{arith}
-use Rattle.profile.specs.Patterns.{rowOf}
+use Rattle.profile.specs.Patterns.{rowStart, rowOf}
+use Rattle.profile.proofs.Laws.{each-at}
+use Rattle.profile.proofs.Registers.{row-at}
 use borrow.Author.Needs.{needs}
 use Rattle.ask.proofs.figures.toggle_of.Statement.{statement}
 use Rattle.ask.proofs.figures.toggle_of.Tie as tie
 
 module _ (l : List ℕ) (k : ℕ) where
-  row-toggle : (j : ℕ) → j < 3 → getD (rowOf l k) j 0 ≡ getD l (3 * k + j) 0
-  row-toggle zero h = ap (λ (i : ℕ). getD l i 0) (omega arith)
-  row-toggle (suc zero) h = refl
-  row-toggle (suc (suc zero)) h = refl
-  row-toggle (suc (suc (suc j))) h = absurd (omega arith)
-
   no-toggle : (j : ℕ) → 3 ≤ j → 0 ≡ getD (rowOf l k) j 0
   no-toggle j h = sym (List·getD-eq-default (rowOf l k) 0 {n = j} (omega arith))
 
-  no-output : (j : ℕ) → j < 3 → length l ≤ 3 * k → 0 ≡ getD (rowOf l k) j 0
-  no-output j h m = sym (row-toggle j h ∙ List·getD-eq-default l 0 (omega arith))
+  no-output : (j : ℕ) → length l ≤ rowStart k → 0 ≡ getD (rowOf l k) j 0
+  no-output j h =
+      each-at (λ (x : ℕ). 0 ≡ x) (rowOf l k) 0 (past _ (omega arith), (past _ (omega arith), (past _ (omega arith), tt))) refl j
+    where
+      past : (i : ℕ) → rowStart k ≤ i → 0 ≡ getD l i 0
+      past i m = sym (List·getD-eq-default l 0 (omega arith))
 
 returns : tie.Need-returns
 returns c =
@@ -36,17 +36,17 @@ returns-2 c =
     let t = k .before .before .args .pattern .toggles in
     let e : length t ≡ 18 = search needs in
     rw (← (k .before .less-one .ensures), ← (k .less-one2 .ensures))
-    (no-output t (k .before .less-one .result) (k .less-one2 .result) (c .before .if1 .left) (omega (arith, c .if2 .taken)))
+    (no-output t (k .before .less-one .result) (k .less-one2 .result) (omega (arith, c .if2 .taken)))
 
 returns-3 : tie.Need-returns-3
 returns-3 c =
-    let k = c .before .before .before in
+    let k = c .before .before .before .before .before in
     let t = k .before .before .args .pattern .toggles in
-    rw (← (k .before .less-one .ensures), ← (k .less-one2 .ensures))
-    (sym (row-toggle t (k .before .less-one .result) (k .less-one2 .result) (c .before .before .if1 .left)))
+    rw (← (k .before .less-one .ensures), ← (k .less-one2 .ensures), c .before .rows-of .ensures)
+    (ap (λ (row : List ℕ). getD row (k .less-one2 .result) 0) (row-at t (k .before .less-one .result) (c .before .before .before .if2 .left)))
 
 pub toggle-of-spec : {M : Type 1} → statement M
 toggle-of-spec =
     tie.close
     (tie.spec (λ c κs. search needs) (λ c. search needs) (λ c κs. search needs) (λ c. search needs) returns returns-2
-    (λ c. search needs) (λ c. search needs) (λ c. search needs) (λ c. search needs) returns-3)
+    (λ c κs. search needs) (λ c. search needs) (λ c. search needs) (λ c. search needs) (λ c. search needs) returns-3)

@@ -1,0 +1,35 @@
+-- The lists before the table of registers: compiling over the check and the words as they were (proofs/Before.antt of profile and level), and that
+-- every answer and what is left in both lists is the same.
+-- Assumes nothing.
+use Prim.Native.Nat.{ℕ}
+use mathlib.Core.Path.{_≡_}
+use mathlib.Core.Bool.{cond}
+use mathlib.Core.List.{List}
+use Rattle.profile.specs.Values.{Sized, accepts}
+use Rattle.profile.specs.declared.Profile.{Profile}
+use Rattle.profile.proofs.Before.{checkBefore, check-before}
+use Rattle.level.proofs.Before.{wordsBefore, words-before}
+use Rattle.holdlist.specs.Compile.{holdAnswer, holdCounts, holdWords, compileAnswer, compileCounts, compileWords}
+use Rattle.holdlist.specs.declared.Compiled.{Compiled}
+
+pub compileBefore : Profile → ℕ → Compiled
+compileBefore p room =
+    cond (accepts (checkBefore p)) (holdAnswer (wordsBefore (p .tables) (p .field)) room)
+    (record { verdict = checkBefore p; steps = 0; pixels = 0 })
+
+-- what is left in a list, the counts or the words, by how the words held leave it
+pub leftBefore : (List ℕ → ℕ → List ℕ → List ℕ) → Profile → ℕ → List ℕ → List ℕ
+leftBefore hold p room list = cond (accepts (checkBefore p)) (hold (wordsBefore (p .tables) (p .field)) room list) list
+
+module _ (p : Profile) (room : ℕ) (z : Sized p) where
+  pub compile-before : compileAnswer p room ≡ compileBefore p room
+  unfolding compileAnswer compileBefore
+  compile-before = rw (check-before p z, words-before (p .tables) (p .field) (z .registers))
+
+  pub counts-before : (counts : List ℕ) → compileCounts p room counts ≡ leftBefore holdCounts p room counts
+  unfolding compileCounts leftBefore
+  counts-before counts = rw (check-before p z, words-before (p .tables) (p .field) (z .registers))
+
+  pub words-left-before : (words : List ℕ) → compileWords p room words ≡ leftBefore holdWords p room words
+  unfolding compileWords leftBefore
+  words-left-before words = rw (check-before p z, words-before (p .tables) (p .field) (z .registers))

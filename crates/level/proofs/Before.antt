@@ -1,0 +1,96 @@
+-- The words before the table of registers: a line as it was, with its patterns read by 24k and an offset (profile's proofs/Before.antt), and that
+-- every line, every word of a field and every answer of a level or a place is the same. Only a line's two patterns rest on how patterns are read.
+-- Assumes nothing.
+use Prim.Native.Nat.{ℕ}
+use mathlib.Core.Path.{_≡_, refl, ap, _∙_}
+use mathlib.Core.Bool.{cond, _&&_}
+use mathlib.Core.List.{List}
+use lib.Dec.{ltb}
+use lib.ListN.{length, getD}
+use Rattle.profile.specs.Lists.{chunks}
+use Rattle.profile.specs.Values.{Sized, emptyShutter, accepted, refused, accepts}
+use Rattle.profile.specs.Patterns.{patternOf}
+use Rattle.profile.specs.Geometry.{regionAt, regionOf, sequenceOf, lengthIn, lineLength, regionPixels, hasPixel, repetitions, gateLines}
+use Rattle.profile.specs.Rules.{pairOn, hasSecond}
+use Rattle.profile.specs.declared.Pattern.{Pattern}
+use Rattle.profile.specs.declared.Region.{Region}
+use Rattle.profile.specs.declared.Sequence.{Sequence}
+use Rattle.profile.specs.declared.Tables.{Tables}
+use Rattle.profile.specs.declared.Field.{Field}
+use Rattle.profile.specs.declared.Profile.{Profile}
+use Rattle.profile.proofs.Before.{patternBefore, pattern-before, checkBefore, check-before}
+use Rattle.level.specs.Line.{onGateLine, gatesHere, subckHere, shutterHere, lineWith, noLine, lineOf}
+use Rattle.level.specs.Word.{wordOf}
+use Rattle.level.specs.Fieldwords.{lineWords, fieldWords}
+use Rattle.level.specs.Place.{noLevel, levelAnswer, noPlace, placeAnswer, locateAnswer}
+use Rattle.level.specs.declared.Line.{Line}
+use Rattle.level.specs.declared.LevelAnswer.{LevelAnswer}
+use Rattle.level.specs.declared.Located.{Located}
+
+-- the line of region r, whose number is i, with sequence s and that sequence's pattern a, and a second pattern that is read by its number
+abbrev lineWithBy : (ℕ → Pattern) → Tables → Field → ℕ → ℕ → Region → Sequence → Pattern → Line
+lineWithBy pattern t f line i r s a =
+    record {
+      length = lengthIn t f i line;
+      mode = r .mode;
+      pattern = a;
+      start = s .start;
+      origin = regionPixels t f i line;
+      repetitions = repetitions s line;
+      mask1 = record { on = pairOn (s .mask) 1; freeze = a .freeze1; resume = a .resume1 };
+      mask2 = record { on = pairOn (s .mask) 2; freeze = a .freeze2; resume = a .resume2 };
+      «second_acts» = hasSecond f && onGateLine f line;
+      second = pattern (f .second);
+      gates = gatesHere (t .gates) (onGateLine f line);
+      subck = subckHere (t .subck) (getD (gateLines f) 0 0) line;
+      mshut = shutterHere (getD (t .shutters) 0 emptyShutter) line (lengthIn t f i line);
+      strobe = shutterHere (getD (t .shutters) 1 emptyShutter) line (lengthIn t f i line);
+    }
+
+abbrev lineBy : (ℕ → Pattern) → Tables → Field → ℕ → ℕ → Line
+lineBy pattern t f line i =
+    lineWithBy pattern t f line i (regionAt f i) (sequenceOf t (regionAt f i .sequence)) (pattern (sequenceOf t (regionAt f i .sequence) .pattern))
+
+lineWhere : (ℕ → Pattern) → Tables → Field → ℕ → Line
+lineWhere pattern t f line = cond (ltb line (f .lines)) (lineBy pattern t f line (regionOf f line)) noLine
+
+pub lineBefore : Tables → Field → ℕ → Line
+lineBefore t f line = lineWhere (patternBefore (t .registers)) t f line
+
+pub wordsBefore : Tables → Field → List ℕ
+wordsBefore t f = chunks (f .lines) (λ line. lineWords (lineBefore t f line) (lineLength t f line))
+
+pub levelBefore : Profile → ℕ → ℕ → LevelAnswer
+levelBefore p line pixel =
+    cond (accepts (checkBefore p))
+    (cond (hasPixel (p .tables) (p .field) line pixel)
+    (record { verdict = accepted; word = wordOf (lineBefore (p .tables) (p .field) line) pixel })
+    (noLevel (refused 19 0)))
+    (noLevel (checkBefore p))
+
+line-where : (t : Tables) (f : Field) (line : ℕ) → lineOf t f line ≡ lineWhere (patternOf (t .registers)) t f line
+unfolding lineOf lineWith lineWhere
+line-where t f line = refl
+
+pub line-before : (t : Tables) (f : Field) (line : ℕ) → length (t .registers) ≡ 240 → lineOf t f line ≡ lineBefore t f line
+unfolding lineBefore
+line-before t f line e =
+    line-where t f line ∙ ap (λ (pattern : ℕ → Pattern). lineWhere pattern t f line) (λ i k. pattern-before (t .registers) e k i)
+
+-- every word of a field
+pub words-before : (t : Tables) (f : Field) → length (t .registers) ≡ 240 → fieldWords t f ≡ wordsBefore t f
+unfolding fieldWords wordsBefore
+words-before t f e =
+    ap (λ (l : ℕ → Line). chunks (f .lines) (λ line. lineWords (l line) (lineLength t f line))) (λ i line. line-before t f line e i)
+
+-- and every level that is asked for
+pub level-before : (p : Profile) (line pixel : ℕ) → Sized p → levelAnswer p line pixel ≡ levelBefore p line pixel
+unfolding levelAnswer levelBefore
+level-before p line pixel z = rw (check-before p z, line-before (p .tables) (p .field) line (z .registers))
+
+pub locateBefore : Profile → ℕ → Located
+locateBefore p n = cond (accepts (checkBefore p)) (placeAnswer (p .tables) (p .field) n) (noPlace (checkBefore p))
+
+pub locate-before : (p : Profile) (n : ℕ) → Sized p → locateAnswer p n ≡ locateBefore p n
+unfolding locateAnswer locateBefore
+locate-before p n z = rw (check-before p z)

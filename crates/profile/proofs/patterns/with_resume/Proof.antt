@@ -1,0 +1,17 @@
+-- Each branch is of its pair.
+-- Assumes nothing.
+use borrow.Author.Tests.{eq-eqb, ne-eqb}
+use Rattle.profile.specs.Patterns.{withPart}
+use Rattle.profile.proofs.patterns.with_resume.Statement.{statement}
+use Rattle.profile.proofs.patterns.with_resume.Tie as tie
+
+returns : tie.Need-returns
+unfolding withPart
+returns c = rw (eq-eqb _ _ (c .if1 .taken))
+
+returns-2 : tie.Need-returns-2
+unfolding withPart
+returns-2 c = rw (ne-eqb _ _ (c .if1 .left))
+
+pub with-resume-spec : {M : Type 1} → statement M
+with-resume-spec = tie.close (tie.spec returns returns-2)
