@@ -10,7 +10,7 @@ use mathlib.Core.Bool.{Bool, true, cond, not, _&&_, _||_}
 use mathlib.Core.List.{List, [], _∷_, _++_, map, flatMap}
 use borrow.Author.Tests.{eq-eqb, ne-eqb, eqb-true, eqb-false, ltb-true, ltb-false, le-leb, lt-leb}
 use lib.Dec.{ltb, leb, eqb}
-use lib.ListN.{length, getD, List·getD-eq-default, List·getD-map}
+use lib.ListN.{length, getD, List·getD-eq-default}
 use Rattle.profile.specs.Lists.{all, chunks, over}
 use Rattle.profile.specs.Bytes.{Bytes, numberAt, dataAt}
 use Rattle.profile.specs.Values.{Sized, emptyProfile, accepted, refused, accepts, readAnswer}
@@ -69,7 +69,7 @@ use Rattle.profile.specs.declared.Profile.{Profile}
 use Rattle.profile.specs.declared.Verdict.{Verdict}
 use Rattle.profile.specs.declared.ReadAnswer.{ReadAnswer}
 use Rattle.profile.specs.declared.Written.{Written}
-use Rattle.profile.proofs.Laws.{by-cases, getD-ones}
+use Rattle.profile.proofs.Laws.{by-cases, image-at}
 use Rattle.profile.proofs.ByteRange.{bytes-part, bytes-tail}
 use Rattle.profile.proofs.Reading.{empty-sized, records-sized}
 
@@ -165,10 +165,7 @@ limitBefore i = cond (eqb (i % 24) 0) 63 4095
 
 pub limit-before : (i : ℕ) → halfLimit i ≡ limitBefore i
 unfolding halfPart chunks
-limit-before i =
-    let limits : map partLimit parts ≡ chunks 24 (λ j. cond (eqb j 0) 63 4095 ∷ []) = refl in
-    sym (List·getD-map partLimit parts (i % 24) Levels) ∙ ap (λ (l : List ℕ). getD l (i % 24) 63) limits
-    ∙ getD-ones 24 (λ j. cond (eqb j 0) 63 4095) 63 (i % 24) (omega arith)
+limit-before i = image-at partLimit parts 24 (λ j. cond (eqb j 0) 63 4095) Levels refl (i % 24) (omega arith)
 
 -- the ranges of a profile, with a limit of each half register
 abbrev inRangeBy : (ℕ → ℕ) → Profile → Bool

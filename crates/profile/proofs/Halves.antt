@@ -7,13 +7,13 @@ use native.Mathlib.Nat.{le-refl}
 use mathlib.Core.Path.{_≡_, refl, sym, ap, _∙_}
 use mathlib.Core.Bool.{Bool, true, _&&_}
 use mathlib.Core.List.{List, [], _∷_, map}
-use lib.ListN.{length, length-map, getD, List·getD-map}
+use lib.ListN.{length, length-map, getD}
 use lib.Dec.{leb}
 use Rattle.profile.specs.Lists.{all, chunks}
 use Rattle.profile.specs.Layout.{parts, halfPattern, halfPart, IsPart, partLimit, patternNamed, partNamed, Follows, EachOnce}
 use Rattle.profile.specs.declared.layout.Part.{Part}
 use Rattle.profile.specs.declared.layout.Part.the-variants.{Levels, Length, Toggle, Freeze, Resume}
-use Rattle.profile.proofs.Laws.{length-ones, getD-ones, each-at}
+use Rattle.profile.proofs.Laws.{length-ones, image-at, each-at}
 use Rattle.profile.proofs.Reflects.{Says, says-le, says-and, says-map}
 
 -- ---- parts
@@ -64,12 +64,9 @@ pub table-follows : (table : List ℕ) → map named table ≡ chunks 240 (λ i.
 table-follows table e =
     record {
       size = sym (length-map table named) ∙ ap length e ∙ length-ones 240 held;
-      pattern = λ i h. ap (λ (x : ℕ × Part). x .0) (at i h);
-      part = λ i h. ap (λ (x : ℕ × Part). x .1) (at i h);
+      pattern = λ i h. ap (λ (x : ℕ × Part). x .0) (image-at named table 240 held 0 e i h);
+      part = λ i h. ap (λ (x : ℕ × Part). x .1) (image-at named table 240 held 0 e i h);
     }
-  where
-    at : (i : ℕ) → i < 240 → named (getD table i 0) ≡ held i
-    at i h = sym (List·getD-map named table i 0) ∙ ap (λ (l : List (ℕ × Part)). getD l i (named 0)) e ∙ getD-ones 240 held _ i h
 
 -- ---- one entry a part
 
@@ -115,9 +112,7 @@ part-at (Resume pair) w = up-to-two (λ q. getD parts (2 * q + 19) Levels ≡ Re
 
 offset-at : (j : ℕ) → j < 24 → offset (getD parts j Levels) ≡ j
 unfolding offset chunks
-offset-at j h =
-    let e : map offset parts ≡ chunks 24 (λ j. j ∷ []) = refl in
-    sym (List·getD-map offset parts j Levels) ∙ ap (λ (l : List ℕ). getD l j 0) e ∙ getD-ones 24 (λ j. j) 0 j h
+offset-at = image-at offset parts 24 (λ j. j) Levels refl
 
 offset-below : (part : Part) → IsPart part → offset part < 24
 unfolding offset

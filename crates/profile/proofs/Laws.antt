@@ -9,7 +9,7 @@ use native.Mathlib.Nat.{add-zero, zero-add, add-suc, add-assoc, zero-mul, suc-mu
 use native.Mathlib.Numerals.{add-one}
 use native.Mathlib.Omega.{arith}
 use borrow.Author.Tests.{not-true, not-false, leb-true, leb-false, le-leb, lt-leb, eqb-true, eqb-false}
-use lib.ListN.{length, length-map, getD, take, drop, length-append, length-drop, drop-of-length-le, List·getD-append}
+use lib.ListN.{length, length-map, getD, take, drop, length-append, length-drop, drop-of-length-le, List·getD-append, List·getD-map}
 use lib.Seq.{getD-append-add, take-all}
 use lib.Dec.{leb, eqb}
 use Rattle.profile.specs.Lists.{Each, all, chunks, sum, lastStart}
@@ -171,6 +171,12 @@ pub getD-ones : {A : Type 0} (n : ℕ) (f : ℕ → A) (d : A) (i : ℕ) → i <
 getD-ones n f d i h =
     let e : i ≡ length (chunks i (λ i. f i ∷ [])) + 0 = omega (arith, length-ones i f) in
     ap (λ (k : ℕ). getD (chunks n (λ i. f i ∷ [])) k d) e ∙ getD-chunks n (λ i. f i ∷ []) d i 0 h (omega arith)
+
+-- one test computed over a whole list, that its image is g 0, g 1, .., gives the rule at each element
+pub image-at : {A B : Type 0} (f : A → B) (xs : List A) (n : ℕ) (g : ℕ → B) (d : A) → map f xs ≡ chunks n (λ i. g i ∷ [])
+    → (i : ℕ) → i < n → f (getD xs i d) ≡ g i
+image-at {B = B} f xs n g d e i h =
+    sym (List·getD-map f xs i d) ∙ ap (λ (l : List B). getD l i (f d)) e ∙ getD-ones n g (f d) i h
 
 -- tests made chunk by chunk
 pub all-chunks : (n : ℕ) (f : ℕ → List Bool) → all (chunks n f) ≡ true → (i : ℕ) → i < n → all (f i) ≡ true
