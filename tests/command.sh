@@ -13,7 +13,7 @@ passed=0 bad=0
 # saw STATUS WHAT EXPECTED-STATUS STDOUT STDERR: what a command left in $work/out and $work/err; STDERR is a pattern for all of it, empty for nothing
 saw() {
   local out err
-  out=$(cat "$work/out") err=$(cat "$work/err")
+  out=$(< "$work/out") err=$(< "$work/err")
   if [ "$1" -eq "$3" ] && [ "$out" == "$4" ] && [[ "$err" =~ ^${5:-}$ ]]; then
     passed=$((passed + 1))
   else
@@ -29,7 +29,7 @@ try() {
 }
 bytes() { python3 -c 'import sys; sys.stdout.buffer.write(bytes.fromhex(sys.argv[1]))' "$1"; }
 w1=$'steps 7 pixels 20\n3 0FC1\n2 0FC0\n8 0FC1\n2 0FC0\n2 0FC1\n2 0FC0\n1 0FC1'
-too_far='booth: refused 13: in region 0 the run ends at pixel 124 of 120; lower the repetitions or give the region more lines'
+too_far='booth: refused 13: in region 0 the run ends at pixel 124 of 120; lower the repetitions or the start, or give the region more lines'
 
 # ---- the list, by its status
 try "a list" 0 "$w1" "" "$booth" examples/base.bin
@@ -42,9 +42,9 @@ try "a list through a link" 0 "$w1" "" "$work/link" examples/base.bin
 try "a refusal" 1 "refused 13 0" "$too_far" "$booth" examples/refused.bin
 try "an empty script" 1 "refused 6 0" "booth: refused 6: the script gives no field; .*" "$booth" /dev/null
 head -c 100 examples/base.bin > "$work/cut"
-try "a script cut off in a header" 1 "refused 2 98" "booth: refused 2: the record at byte 98 needs at least 4 bytes and only 2 are left; .*" "$booth" "$work/cut"
+try "a script cut off in a header" 1 "refused 2 98" "booth: refused 2: the record at byte 98 needs at least 4 bytes and has 2; .*" "$booth" "$work/cut"
 head -c 117 examples/base.bin > "$work/cut"
-try "a script cut off in a body" 1 "refused 2 98" "booth: refused 2: the record at byte 98 needs at least 20 bytes and only 19 are left; .*" "$booth" "$work/cut"
+try "a script cut off in a body" 1 "refused 2 98" "booth: refused 2: the record at byte 98 needs at least 20 bytes and has 19; .*" "$booth" "$work/cut"
 { cat examples/base.bin; printf '\1\0\7\0'; } > "$work/kind"
 try "a kind that is none" 1 "refused 3 118" "booth: refused 3: the record at byte 118 has kind 7, .*" "$booth" "$work/kind"
 yes | try "an input that never ends" 1 "refused 1 0" "booth: refused 1: the script is longer than 16,384 bytes; .*" "$booth"
@@ -84,6 +84,17 @@ done
   printf '\16\0\2\0\4\0\7\0\12\0\0\0\1\0\1\0\0\0\26\0\3\0\2\0\12\0\0\0\xff\xff\2\0\0\0\0\0\0\0\1\0\4\0\0\0'
 } > "$work/toggle"
 try "10 of a later region" 1 "refused 10 1 3 2" "booth: refused 10: region 1 uses pattern 7, in which V3, toggle 2, is 5 and the one before it 6; .*" "$booth" "$work/toggle"
+
+# 14 to 16, by hand: gate line 2 of 2 and no second pattern; second pattern 3, of length 0; gate 1 with toggles 8 and 5; SUBCK with no suppressed line
+field() { printf '\20\0\3\0\2\0\12\0'"$1"'\1\0\0\0\0\0\0\0'; }
+{ cat examples/base.bin; field '\2\0\xff\xff'; } > "$work/script"
+try "14, the gate line" 1 "refused 14 0" "booth: refused 14: the gate line is line 2 of a field of 2 lines, and the second pattern is 65535, where 65535 is none; .*" "$booth" "$work/script"
+{ cat examples/base.bin; field '\1\0\3\0'; } > "$work/script"
+try "14, the second pattern" 1 "refused 14 0" "booth: refused 14: the gate line is line 1 of a field of 2 lines, and the second pattern is 3, where .*" "$booth" "$work/script"
+{ cat examples/base.bin; printf '\12\0\4\0\1\0\1\0\0\0\10\0\5\0'; } > "$work/script"
+try "15, the toggles" 1 "refused 15 1" "booth: refused 15: gate 1, where 0 is VSG1, is on, its toggles are 8 and 5, and the gate line has 10 pixels; .*" "$booth" "$work/script"
+{ cat examples/base.bin; printf '\12\0\5\0\1\0\2\0\5\0\0\0\1\0'; } > "$work/script"
+try "16, the suppressed lines" 1 "refused 16 0" "booth: refused 16: the toggles of SUBCK are 2 and 5, and the suppressed lines 0; .*" "$booth" "$work/script"
 
 # ---- the other questions
 try "check" 0 "accepted" "" "$booth" check examples/base.bin
@@ -140,25 +151,39 @@ for n in "" x -1 1.5 0x1 " 1"; do
 done
 
 # ---- input that cannot be read
-try "a missing file" 2 "" "booth: no/such/file: no such file" "$booth" no/such/file
-try "a directory" 2 "" "booth: examples: is a directory" "$booth" examples
-try "a missing file of two lines" 2 "" "booth: no.such: no such file" "$booth" $'no\nsuch'
-try "options of another shell" 2 "" "booth: no/such/file: no such file" env SHELLOPTS=errexit:noclobber:xtrace POSIXLY_CORRECT=1 LC_ALL=de_DE BASH_ENV=/dev/stdin "$booth" no/such/file
-try "a directory, check" 2 "" "booth: examples: is a directory" "$booth" check examples
+try "a missing file" 2 "" "booth: no/such/file: No such file or directory" "$booth" no/such/file
+try "a directory" 2 "" "booth: examples: Is a directory" "$booth" examples
+try "a missing file of two lines" 2 "" "booth: no.such: No such file or directory" "$booth" $'no\nsuch'
+try "a file for a folder" 2 "" "booth: README.md/x: Not a directory" "$booth" README.md/x
+ln -s loop "$work/loop"
+try "a link to itself" 2 "" "booth: $work/loop: Too many levels of symbolic links" "$booth" "$work/loop"
+mkfifo "$work/fifo"; cat examples/base.bin > "$work/fifo" &
+try "a named pipe" 0 "$w1" "" "$booth" "$work/fifo"
+try "options of another shell" 2 "" "booth: no/such/file: No such file or directory" env SHELLOPTS=errexit:noclobber:xtrace POSIXLY_CORRECT=1 LC_ALL=de_DE BASH_ENV=/dev/stdin "$booth" no/such/file
+for name in exit echo read printf set head find git; do
+  try "the caller's own $name" 1 "refused 13 0" "$too_far" env "BASH_FUNC_$name%%=() { command echo mine; return 7; }" "$booth" examples/refused.bin
+done
+for n in 1 2; do try "functions $n deep" 1 "refused 13 0" "$too_far" env FUNCNEST=$n BASH_COMPAT=99 "$booth" examples/refused.bin; done
+if unshare -m sh -c 'mount -t tmpfs none /proc' 2> /dev/null; then
+  try "no /dev/fd" 1 "refused 13 0" "$too_far" unshare -m sh -c 'mount -t tmpfs none /proc && exec "$@"' sh "$booth" examples/refused.bin
+else
+  echo "command: skipped: a machine without /dev/fd (nothing can be mounted here)"
+fi
+try "a directory, check" 2 "" "booth: examples: Is a directory" "$booth" check examples
 try "a directory on standard input" 2 "" "booth: standard input: cannot be read" "$booth" < examples
 try "a file whose read fails" 2 "" "booth: /proc/self/mem: cannot be read" "$booth" /proc/self/mem
 cp examples/base.bin "$work/secret"; chmod 000 "$work/secret"
 nobody=; [ "$(id -u)" -ne 0 ] || nobody="setpriv --reuid=65534 --regid=65534 --clear-groups"
 reach() { $nobody sh -c '[ -x "$1" ] && [ -r "$2" ]' sh "$booth" "$PWD/docs/RULES.md"; }
 if reach 2> /dev/null; then
-  try "a file that may not be read" 2 "" "booth: $work/secret: permission denied" $nobody "$booth" "$work/secret"
+  try "a file that may not be read" 2 "" "booth: $work/secret: Permission denied" $nobody "$booth" "$work/secret"
 else
   echo "command: skipped: a file that may not be read (another user cannot reach this folder)"
 fi
 try_closed() { timeout 60 "$booth" "$@" <&- > "$work/out" 2> "$work/err"; }
 try_closed; saw $? "a closed input" 2 "" "booth: standard input is closed"
 try_closed -; saw $? "a closed input, -" 2 "" "booth: standard input is closed"
-try_closed /dev/stdin; saw $? "a closed input by name" 2 "" "booth: /dev/stdin: is a directory"
+try_closed /dev/stdin; saw $? "a closed input by name" 2 "" "booth: standard input is closed"
 try_closed check -; saw $? "a closed input, check" 2 "" "booth: standard input is closed"
 try_closed examples/base.bin; saw $? "a closed input and a file" 0 "$w1" ""
 try_closed level examples/base.bin 0 0; saw $? "a closed input, a file, level" 0 "word 0FC1" ""
@@ -177,7 +202,9 @@ timeout 60 "$booth" examples/base.bin 2>&- > "$work/out"; saw $? "nowhere to say
 timeout 60 "$booth" examples/refused.bin 2>&- > "$work/out"; saw $? "nowhere to say why" 1 "refused 13 0" ""
 timeout 60 "$booth" <&- 2>&- > "$work/out"; saw $? "neither input nor anywhere to say so" 2 "" ""
 timeout 60 "$booth" <&- >&- 2>&-; saw $? "everything closed" 2 "" ""
+{ sleep 0.3; timeout 60 "$booth" examples/refused.bin 2>&1 > "$work/out"; } | true; saw "${PIPESTATUS[0]}" "nobody listens why it is refused" 1 "refused 13 0" ""
 : > "$work/out"
+{ sleep 0.3; timeout 60 "$booth" no/such/file 2>&1 > "$work/out"; } | true; saw "${PIPESTATUS[0]}" "nobody listens to trouble" 2 "" ""
 { sleep 0.3; timeout 60 "$booth" examples/sweep.bin 2> "$work/err"; } | true; saw "${PIPESTATUS[0]}" "an output that closes early" 141 "" ""
 (trap "" PIPE; sleep 0.3; timeout 60 "$booth" examples/sweep.bin 2> "$work/err") | true; saw "${PIPESTATUS[0]}" "an output that closes early, no signal" 141 "" ""
 (ulimit -f 0; timeout 60 "$booth" examples/base.bin > "$work/limited") 2>&1 | cat > "$work/err"
@@ -193,6 +220,16 @@ if mount -t tmpfs -o size=4k none "$work/small" 2> /dev/null; then
 else
   echo "command: skipped: a full disk (a small one cannot be mounted here; /dev/full stands in for it)"
 fi
+
+# ---- short of memory: the right list or none, and never a refusal. The script is base.bin after 2,033 records of register 119, so that it has 16,382 bytes
+{ python3 -c 'import sys; sys.stdout.buffer.write(bytes([4, 0, 1, 0, 119, 0, 0, 0]) * 2033)'; cat examples/base.bin; } > "$work/large"
+try "a large script" 0 "$w1" "" "$booth" "$work/large"
+: > "$work/err"
+for ((n = 3000; n <= 6000; n += 100)); do
+  (ulimit -v "$n"; timeout 60 "$booth" "$work/large") > "$work/out" 2> /dev/null; status=$?
+  case $status in 0) expected=$w1 ;; 1) expected="no refusal" ;; *) expected= ;; esac
+  saw "$status" "with $n KiB of memory" "$status" "$expected" ""
+done
 
 # ---- programs that misbehave: a copy of the command with stubs for its programs
 copy=$work/copy
@@ -224,6 +261,17 @@ stub booth 'cat > /dev/null; echo "refused 13 0"'
 stub ask 'kill -SEGV $$'
 try "figures that crash" 2 "refused 13 0" "booth: the program ask crashed: signal SEGV" "$copy/booth" examples/base.bin
 try "a question that crashes" 2 "" "booth: the program ask crashed: signal SEGV" "$copy/booth" check examples/base.bin
+# what turns the answer into text fails, or is not there
+mkdir "$work/lossy"
+cat > "$work/lossy/od" << END
+#!/usr/bin/env bash
+echo >> $work/calls
+[ "\$(wc -l < $work/calls)" -lt 2 ] || { cat > /dev/null; exit 1; }
+exec $(command -v od) "\$@"
+END
+chmod +x "$work/lossy/od"; stub booth 'cat > /dev/null; echo "steps 0 pixels 0"'
+PATH=$work/lossy:$PATH try "an answer that is lost" 2 "" "booth: the program booth was not given the whole script, or its answer was lost" "$copy/booth" examples/base.bin
+stub booth 'cat > /dev/null; echo "refused 13 0"'
 rm "$copy/docs/RULES.md"
 try "no rule book" 1 "refused 13 0" "booth: refused 13: see docs/RULES.md, place 0" "$copy/booth" examples/base.bin
 
@@ -256,6 +304,10 @@ with try "a source that matters to no program is newer" 0 "$w1" "" "$copy/booth"
 touch "$copy/crates/level/src"
 with try "a newer source" 0 "$w1" "$steps" "$copy/booth" examples/base.bin; proved "$order $order " "a newer source"
 
+rm -r "$copy/crates/level"
+with try "a source that is gone" 2 "" "booth: the sources of its programs, $copy/crates, cannot be looked through" "$copy/booth" examples/base.bin
+mkdir "$copy/crates/level"
+
 # a program that is gone is made anew; one whose check went wrong after it was linked is not used
 rm "$copy/target/bin/ask"
 with try "a program that is gone" 0 "$w1" "$steps" "$copy/booth" examples/base.bin
@@ -282,8 +334,17 @@ fresh
 RT_FAILS=level with try "a crate that is not proved" 2 "" "${steps%%$'\n'*}"$'\n'"booth: 1 of 6: profile proved .*"$'\n'"booth: not built: level is not proved: $copy/target/booth.log says why" "$copy/booth" examples/base.bin
 RT_EMPTY=1 with try "a program that was not built" 2 "" ".*booth: not built: no target/bin/booth: $copy/target/booth.log says why" "$copy/booth" examples/base.bin
 mkdir "$work/bare"
-for name in bash env timeout readlink dirname awk find sed head od tr git flock mkdir touch cat wc; do ln -s "$(command -v "$name")" "$work/bare/"; done
+for name in bash env timeout readlink awk find sed head od tr git flock mkdir rm touch cat wc; do ln -s "$(command -v "$name")" "$work/bare/"; done
 PATH=$work/bare try "no prover" 2 "" "booth: not built: rt, Rattle's command, is not on PATH" "$copy/booth" examples/base.bin
+for name in awk cat find head od readlink sed tr; do
+  mv "$work/bare/$name" "$work/away"
+  for words in "examples/base.bin" "--help" "--version"; do
+    PATH=$work/bare try "no $name: $words" 2 "" "booth: $name is not on PATH" "$booth" $words
+  done
+  mv "$work/away" "$work/bare/$name"
+done
+mv "$work/bare/flock" "$work/away"; cp "$work/tools/rt" "$work/bare/rt"
+PATH=$work/bare try "no flock" 2 "" "booth: flock is not on PATH" "$copy/booth" examples/base.bin
 fresh; rm -r "$copy/target"; chmod a-w "$copy"
 chmod -R a+rX "$work/tools" "$copy"
 if [ -z "$nobody" ] || $nobody true 2> /dev/null; then

@@ -52,13 +52,13 @@ regionFigures t f n i =
     (cond (eqb n 12) (figures (sequenceAt t f i .odd) (sequenceAt t f i .even) 0)
     (cond (eqb n 13) (runFigures t f i) (figures (sequenceAt t f i .pattern) (sequenceAt t f i .mask) 0))))
 
--- 14: the gate line, and the line count; 15: the second toggle of gate i, and the gate line's length; 16: SUBCK's toggles; 17: the lines on
--- which shutter i goes on and off
+-- 14: the gate line, the line count, and the second pattern; 15: the toggles of gate i, and the gate line's length; 16: SUBCK's toggles, and the
+-- suppressed lines; 17: the lines on which shutter i goes on and off
 unfoldable pub fieldFigures : Tables → Field → ℕ → ℕ → Figures
 fieldFigures t f n i =
-    cond (eqb n 14) (figures (f .gate) (f .lines) 0)
-    (cond (eqb n 15) (figures (gateOf t i .toggle2) (lineLength t f (f .gate)) 0)
-    (cond (eqb n 16) (figures (t .subck .toggle1) (t .subck .toggle2) 0)
+    cond (eqb n 14) (figures (f .gate) (f .lines) (f .second))
+    (cond (eqb n 15) (figures (gateOf t i .toggle1) (gateOf t i .toggle2) (lineLength t f (f .gate)))
+    (cond (eqb n 16) (figures (t .subck .toggle1) (t .subck .toggle2) (t .subck .suppressed))
     (figures (shutterOf t i .«on_line») (shutterOf t i .«off_line») 0)))
 
 -- 7 to 17, of a profile

@@ -39,6 +39,16 @@ fn two(first: u64, second: u64) -> Figures
     }
 }
 
+fn three(first: u16, second: u16, third: u16) -> Figures
+    ensures { λ r. ⌜ r ≡ figures first second third ⌝ }
+{
+    Figures {
+        first: first as u64,
+        second: second as u64,
+        third: third as u64,
+    }
+}
+
 // ---- of the record at a place
 
 fn wide(x: u8) -> u64
@@ -139,11 +149,9 @@ fn toggle_figures(tables: Tables, field: Field, verdict: Verdict) -> Figures
     let registers = tables.registers;
     let pattern = pattern_of(registers, sequence.pattern);
     let before = less_one(verdict.toggle);
-    Figures {
-        first: toggle_of(pattern, verdict.output, before) as u64,
-        second: toggle_of(pattern, verdict.output, verdict.toggle) as u64,
-        third: sequence.pattern as u64,
-    }
+    let first = toggle_of(pattern, verdict.output, before);
+    let second = toggle_of(pattern, verdict.output, verdict.toggle);
+    three(first, second, sequence.pattern)
 }
 
 // 7 to 13 but 10, at region i.
@@ -169,7 +177,7 @@ fn gate_figures(tables: Tables, field: Field, i: usize) -> Figures
 {
     let gate = gate_of(tables, i);
     let length = line_length(tables, field, field.gate as u64);
-    two(gate.toggle2 as u64, length as u64)
+    three(gate.toggle1, gate.toggle2, length)
 }
 
 // 14 to 17, at gate or shutter i.
@@ -179,9 +187,9 @@ fn field_figures(tables: Tables, field: Field, number: u16, i: usize) -> Figures
     let subck = tables.subck;
     let shutter = shutter_of(tables, i);
     match number {
-        14 => two(field.gate as u64, field.lines as u64),
+        14 => three(field.gate, field.lines, field.second),
         15 => gate_figures(tables, field, i),
-        16 => two(subck.toggle1 as u64, subck.toggle2 as u64),
+        16 => three(subck.toggle1, subck.toggle2, subck.suppressed),
         _ => two(shutter.on_line as u64, shutter.off_line as u64),
     }
 }
