@@ -29,6 +29,7 @@ pub struct Figures {
     pub third: u64,
 }
 
+// Two numbers that a sum, a product or a length may be.
 fn two(first: u64, second: u64) -> Figures
     ensures { λ r. ⌜ r ≡ figures first second 0 ⌝ }
 {
@@ -39,6 +40,7 @@ fn two(first: u64, second: u64) -> Figures
     }
 }
 
+// Three numbers of a profile.
 fn three(first: u16, second: u16, third: u16) -> Figures
     ensures { λ r. ⌜ r ≡ figures first second third ⌝ }
 {
