@@ -4,14 +4,14 @@
 #include <stdlib.h>
 #include "word.h"
 
-enum { SCRIPT_MOST = 16384, ROOM = 4096, NO_SECOND = 65535 };
+enum { SCRIPT_MOST = 16384, ROOM = 4096, NO_SECOND = 65535, NO_GATE2 = 65535 };
 
 typedef struct { uint16_t low, high; } range;
 
 // The profile: what the records carry.
 typedef struct { bool given; uint16_t pattern, length, start, counts[2], mask; } sequence;
 typedef struct { uint16_t first, sequence, mode; } region;
-typedef struct { bool given; uint16_t lines, last, gate, second, n; region regions[7]; } field;
+typedef struct { bool given; uint16_t lines, last, gate, gate2, second, n; region regions[7]; } field;
 typedef struct { bool given; uint16_t on, level, toggle1, toggle2; } gate;
 typedef struct { bool given; uint16_t level, toggle1, toggle2, suppressed, count; } subck;
 typedef struct { bool given; uint16_t level, on_line, on_pixel, off_line, off_pixel; } shutter;
@@ -58,13 +58,20 @@ static bool take_sequence(const uint8_t *b) {
     return true;
 }
 
+// A field has two forms, told apart by the length: 10 + 6n bytes, and 12 + 6n with a second gate line after the first.
+static bool second_form(unsigned length) { return length % 6 == 0; }
+
 static bool take_field(const uint8_t *b, unsigned length) {
-    static const range ranges[] = {{1, 4095}, {1, 4095}, {0, 4094}, {0, 65535}, {1, 7}};
+    static const range ranges[] = {{1, 4095}, {1, 4095}, {0, 4094}};
     static const range of_region[] = {{0, 4094}, {0, 9}, {0, 2}};
-    field f = {true, number(b, 0), number(b, 1), number(b, 2), number(b, 3), number(b, 4), {{0, 0, 0}}};
-    if (!within(b, ranges, 5) || (f.second > 9 && f.second != NO_SECOND) || length != 10u + 6 * f.n) return false;
+    int after = second_form(length) ? 4 : 3;
+    unsigned head = 2 * after + 4;
+    field f = {true, number(b, 0), number(b, 1), number(b, 2), NO_GATE2, number(b, after), number(b, after + 1), {{0, 0, 0}}};
+    if (second_form(length)) f.gate2 = number(b, 3);
+    if (!within(b, ranges, 3) || (f.gate2 > 4094 && f.gate2 != NO_GATE2) || (f.second > 9 && f.second != NO_SECOND)) return false;
+    if (length != head + 6u * f.n) return false;
     for (int i = 0; i < f.n; i++) {
-        const uint8_t *r = b + 10 + 6 * i;
+        const uint8_t *r = b + head + 6 * i;
         if (!within(r, of_region, 3)) return false;
         f.regions[i] = (region){number(r, 0), number(r, 1), number(r, 2)};
     }
@@ -95,7 +102,7 @@ static bool take_shutter(const uint8_t *b) {
 
 static bool length_allowed(unsigned kind, unsigned length) {
     static const unsigned lengths[] = {0, 4, 14, 0, 10, 10, 12};
-    return kind == 3 ? length >= 16 && length <= 52 && length % 6 == 4 : length == lengths[kind];
+    return kind == 3 ? length >= 16 && length <= 54 && (length % 6 == 4 || second_form(length)) : length == lengths[kind];
 }
 
 static bool take(unsigned kind, const uint8_t *body, unsigned length) {
@@ -207,10 +214,13 @@ static void check_rules(void) {
         if ((i == 0 ? first != 0 : first <= f->regions[i - 1].first) || first >= f->lines) refuse(7, i);
     }
     for (int i = 0; i < f->n; i++) check_region(i);
-    if (f->gate >= f->lines || (f->second != NO_SECOND && !second_allowed(f->gate))) refuse(14, 0);
+    bool two = f->gate2 != NO_GATE2;
+    if (f->gate >= f->lines || (two && (f->gate2 >= f->lines || f->gate2 == f->gate))) refuse(14, 0);
+    if (f->second != NO_SECOND && !(second_allowed(f->gate) && (!two || second_allowed(f->gate2)))) refuse(14, 0);
     for (int i = 0; i < 5; i++) {
         const gate *g = &gates[i];
-        if (g->given && g->on && (g->toggle1 >= g->toggle2 || g->toggle2 >= line_length(f->gate))) refuse(15, i);
+        if (!g->given || !g->on) continue;
+        if (g->toggle1 >= g->toggle2 || g->toggle2 >= line_length(f->gate) || (two && g->toggle2 >= line_length(f->gate2))) refuse(15, i);
     }
     if (the_subck.given && (the_subck.toggle1 >= the_subck.toggle2 || the_subck.suppressed == 0)) refuse(16, 0);
     for (int i = 0; i < 2; i++) {
@@ -230,11 +240,11 @@ static span span_of(const shutter *s, unsigned n) {
     return (span){s->level, n == s->on_line ? s->on_pixel : 0, n == s->off_line ? s->off_pixel : 4095};
 }
 
-// An absent gate or SUBCK is at level 1.
+// An absent gate or SUBCK is at level 1. Gates and the second pattern act on both gate lines, SUBCK counts from the one named first.
 static line line_of(const region *r, unsigned n) {
     const sequence *s = &sequences[r->sequence];
     const subck *c = &the_subck;
-    bool at_gate = n == the_field.gate;
+    bool at_gate = n == the_field.gate || n == the_field.gate2;
     unsigned subck_from = the_field.gate + c->suppressed;
     line l = {.mode = r->mode, .pattern = pattern_of(s->pattern), .start = s->start, .repetitions = s->counts[n % 2]};
     l.origin = (n - r->first) * s->length;

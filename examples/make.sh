@@ -25,10 +25,14 @@ pattern() {
 # kind 2: number, pattern, line length, start, odd repetitions, even repetitions, mask
 sequence() { numbers 14 2 "$@"; }
 
-# kind 3: lines, last-line length, gate line, second pattern, then first line, sequence and mode of each region
+# kind 3: lines, last-line length, gate line, second pattern, then first line, sequence and mode of each region; and with a second gate line after the first
 field() {
   local n=$((($# - 4) / 3))
   numbers $((10 + 6 * n)) 3 "$1" "$2" "$3" "$4" $n "${@:5}"
+}
+interlaced_field() {
+  local n=$((($# - 5) / 3))
+  numbers $((12 + 6 * n)) 3 "$1" "$2" "$3" "$4" "$5" $n "${@:6}"
 }
 
 # kind 4: number, on, start level, two toggles. kind 5: start level, two toggles, suppressed lines, count
@@ -56,6 +60,16 @@ clearing() {
   subck 1 24 30 1 1
 }
 
+# An interlaced sensor: plain lines, of which lines 3 and 1 are the gate lines, with a pulse on VSG1 on both; SUBCK pulses on line 4, the one after line 3, which is named first.
+interlaced() {
+  pattern 0 12 1 2 8 4095 4 10 4095 6 11
+  sequence 0 0 40 4 1 1 0
+  interlaced_field 6 40 3 1 $none 0 0 $plain
+  gate 0 1 1 20 32
+  subck 1 24 30 1 1
+}
+
 base > "$out/base.bin"
 clearing 30 > "$out/sweep.bin"
 clearing 31 > "$out/refused.bin"
+interlaced > "$out/interlaced.bin"

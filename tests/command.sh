@@ -85,14 +85,20 @@ done
 } > "$work/toggle"
 try "10 of a later region" 1 "refused 10 1 3 2" "booth: refused 10: region 1 uses pattern 7, in which V3, toggle 2, is 5 and the one before it 6; .*" "$booth" "$work/toggle"
 
-# 14 to 16, by hand: gate line 2 of 2 and no second pattern; second pattern 3, of length 0; gate 1 with toggles 8 and 5; SUBCK with no suppressed line
+# 14 to 16, by hand: gate line 2 of 2 and no second pattern; second pattern 3, of length 0; gate line 1 twice; gate 1 with toggles 8 and 5, and on gate lines of 10 and of 7 pixels; SUBCK with no
+# suppressed line
 field() { printf '\20\0\3\0\2\0\12\0'"$1"'\1\0\0\0\0\0\0\0'; }
+lines() { printf '\22\0\3\0\2\0'"$1"'\xff\xff\1\0\0\0\0\0\0\0'; }
 { cat examples/base.bin; field '\2\0\xff\xff'; } > "$work/script"
-try "14, the gate line" 1 "refused 14 0" "booth: refused 14: the gate line is line 2 of a field of 2 lines, and the second pattern is 65535 \(65535 for none\); .*" "$booth" "$work/script"
+try "14, the gate line" 1 "refused 14 0" "booth: refused 14: the gate line is line 2, the second gate line 65535 \(65535 for none\), of a field of 2 lines, and the second pattern is 65535 \(65535 for none\); .*" "$booth" "$work/script"
 { cat examples/base.bin; field '\1\0\3\0'; } > "$work/script"
-try "14, the second pattern" 1 "refused 14 0" "booth: refused 14: the gate line is line 1 of a field of 2 lines, and the second pattern is 3 \(.*" "$booth" "$work/script"
+try "14, the second pattern" 1 "refused 14 0" "booth: refused 14: the gate line is line 1, the second gate line 65535 \(65535 for none\), of a field of 2 lines, and the second pattern is 3 \(.*" "$booth" "$work/script"
+{ cat examples/base.bin; lines '\12\0\1\0\1\0'; } > "$work/script"
+try "14, equal gate lines" 1 "refused 14 0" "booth: refused 14: the gate line is line 1, the second gate line 1 \(65535 for none\), of a field of 2 lines, .*" "$booth" "$work/script"
 { cat examples/base.bin; printf '\12\0\4\0\1\0\1\0\0\0\10\0\5\0'; } > "$work/script"
-try "15, the toggles" 1 "refused 15 1" "booth: refused 15: gate 1 \(0 is VSG1\) is on, its toggles are 8 and 5, and the gate line has 10 pixels; .*" "$booth" "$work/script"
+try "15, the toggles" 1 "refused 15 1" "booth: refused 15: gate 1 \(0 is VSG1\) is on, its toggles are 8 and 5, and the shortest gate line has 10 pixels; .*" "$booth" "$work/script"
+{ cat examples/base.bin; lines '\7\0\0\0\1\0'; printf '\12\0\4\0\1\0\1\0\0\0\5\0\10\0'; } > "$work/script"
+try "15, the shorter gate line" 1 "refused 15 1" "booth: refused 15: gate 1 \(0 is VSG1\) is on, its toggles are 5 and 8, and the shortest gate line has 7 pixels; .*" "$booth" "$work/script"
 { cat examples/base.bin; printf '\12\0\5\0\1\0\2\0\5\0\0\0\1\0'; } > "$work/script"
 try "16, the suppressed lines" 1 "refused 16 0" "booth: refused 16: the toggles of SUBCK are 2 and 5, and the suppressed lines 0; .*" "$booth" "$work/script"
 
@@ -121,7 +127,7 @@ while read -r count word; do
 done < <("$booth" examples/base.bin | tail -n +2)
 [ "$n" -eq 20 ] || { bad=$((bad + 1)); echo "command: $n pixels of 20 were asked for"; }
 # what is written reads as the same profile, and is written as it is
-for name in base sweep; do
+for name in base sweep interlaced; do
   "$booth" write "examples/$name.bin" > "$work/written" 2> "$work/err"; status=$?
   : > "$work/out"
   saw "$status" "write $name" 0 "" ""
@@ -247,7 +253,7 @@ fresh() {
 }
 stub() { printf '#!/usr/bin/env bash\n%s\n' "$2" > "$copy/target/bin/$1"; chmod +x "$copy/target/bin/$1"; : > "$copy/target/stamp/$1"; }
 fresh
-stub ask 'cat > /dev/null; echo 1 2 3'
+stub ask 'cat > /dev/null; echo 1 2 3 4'
 stub booth 'cat > /dev/null; echo "steps 7 pixels 20"; echo "3 0FC1"; kill -KILL $$'
 try "a program that is killed halfway" 2 "" "booth: the program booth crashed: signal KILL" "$copy/booth" examples/base.bin
 stub booth 'kill -SEGV $$'
@@ -262,6 +268,8 @@ stub booth 'cat > /dev/null; echo "refused 13 0"'
 try "a refusal with figures" 1 "refused 13 0" "booth: refused 13: in region 0 the run ends at pixel 1 of 2; .*" "$copy/booth" examples/base.bin
 stub booth 'cat > /dev/null; echo "refused 10 4 5 6"'
 try "a refusal with all its numbers" 1 "refused 10 4 5 6" "booth: refused 10: region 4 uses pattern 3, in which V5, toggle 6, is 2 and the one before it 1; .*" "$copy/booth" examples/base.bin
+stub booth 'cat > /dev/null; echo "refused 14 0"'
+try "a refusal with all its figures" 1 "refused 14 0" "booth: refused 14: the gate line is line 1, the second gate line 2 \(65535 for none\), of a field of 3 lines, and the second pattern is 4 \(.*" "$copy/booth" examples/base.bin
 stub booth 'cat > /dev/null; echo "refused 13 0"'
 stub ask 'kill -SEGV $$'
 try "figures that crash" 2 "refused 13 0" "booth: the program ask crashed: signal SEGV" "$copy/booth" examples/base.bin

@@ -54,8 +54,9 @@ check "an output that closes early" ""
 run < examples/base.bin; check "base.bin" "$w1"
 run < examples/refused.bin; check "refused.bin" "refused 13 0"
 run < examples/sweep.bin; head -n 1 "$work/out" > "$work/line"; mv "$work/line" "$work/out"; check "sweep.bin" "steps 142 pixels 230"
+run < examples/interlaced.bin; head -n 1 "$work/out" > "$work/line"; mv "$work/line" "$work/out"; check "interlaced.bin" "steps 43 pixels 240"
 bash examples/make.sh "$work" > "$work/out" 2> "$work/err"
-for name in base sweep refused; do cmp "examples/$name.bin" "$work/$name.bin" >> "$work/out"; done
+for name in base sweep refused interlaced; do cmp "examples/$name.bin" "$work/$name.bin" >> "$work/out"; done
 check "make.sh" ""
 
 # ask: a question on the first line, then a script. For a line that is no question nothing is printed.
@@ -63,8 +64,8 @@ asks() { { printf '%b' "$1"; cat "${2:-examples/base.bin}"; } | timeout 20 "$ask
 asks 'C\n'; check "ask C" "accepted"
 asks 'L 1 5\n'; check "ask L" "word 0FC1"
 asks 'N 15\n'; check "ask N" "line 1 pixel 5"
-asks 'F\n' examples/refused.bin; check "ask F" "124 120 0"
-asks 'F\n'; check "ask F of a script that is accepted" "0 0 0"
+asks 'F\n' examples/refused.bin; check "ask F" "124 120 0 0"
+asks 'F\n'; check "ask F of a script that is accepted" "0 0 0 0"
 asks 'C\n' /dev/null; check "ask C of no script" "refused 6 0"
 asks 'C' /dev/null; check "ask C without an end of line" "refused 6 0"
 for line in '' 'X' 'c' 'CC' 'C ' ' C' 'W 1' 'L' 'L 1' 'L 1 ' 'L 1 2 3' 'L  1 2' 'L 1  2' 'L 1 2 ' 'L 1x 2' 'L -1 2' 'L\t1 2' 'L1 2' 'N' 'N ' 'N 1 2' 'N 1\r' 'F 1' 'C\r'; do

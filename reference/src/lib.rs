@@ -1,6 +1,6 @@
 //! A second implementation of document 01 ("What will be built, and the
-//! rules", and the output and toggle that refusal 10 names), written from the
-//! papers alone. It is there to be compared with: clear before fast, and total:
+//! rules", the output and toggle that refusal 10 names, and a second gate line
+//! of the field), written from the papers alone. It is there to be compared with: clear before fast, and total:
 //! every entry point has an answer for any bytes, any numbers in a profile
 //! handed in, any line, pixel and position.
 //!

@@ -70,10 +70,18 @@ pub fn region(first: u16, sequence: u16, mode: Mode) -> Region {
     Region { first, sequence, mode }
 }
 
+/// A field without a second gate line.
 pub fn field(lines: u16, last: u16, gate: u16, second: u16, regions: &[Region]) -> Field {
     let mut all = [Region::default(); REGIONS];
     all[..regions.len()].copy_from_slice(regions);
-    Field { present: true, lines, last, gate, second, count: regions.len() as u16, regions: all }
+    let count = regions.len() as u16;
+    Field { present: true, lines, last, gate, gate2: NO_GATE2, second, count, regions: all }
+}
+
+/// Sets both gate lines, the one named first and the second.
+pub fn set_gate_lines(p: &mut Profile, gate: u16, gate2: u16) {
+    p.field.gate = gate;
+    p.field.gate2 = gate2;
 }
 
 pub fn gate(on: u16, level: u16, toggle1: u16, toggle2: u16) -> Gate {
@@ -138,6 +146,25 @@ pub fn profile_rich() -> Profile {
     p
 }
 
+/// `profile_rich` with a second gate line before the first: on line 0 the first
+/// pattern ends at 3 + 1 × 5, which is the second's length.
+pub fn profile_two() -> Profile {
+    with(&profile_rich(), |p| {
+        p.sequences[0].odd = 1;
+        p.field.gate2 = 0;
+    })
+}
+
+/// A profile whose script has every record, the longest there is: 1,312 bytes,
+/// and with a second gate line 1,314.
+pub fn with_all_sequences(profile: &Profile) -> Profile {
+    with(profile, |p| {
+        for i in 7..10 {
+            p.sequences[i] = sequence(i as u16, 9, 1, 2, 3, 1);
+        }
+    })
+}
+
 /// Seven regions of two lines of ten pixels, all of one mode; region i has
 /// sequence i and pattern i, and 20 pixels.
 pub fn profile_seven(mode: Mode) -> Profile {
@@ -168,7 +195,8 @@ pub enum Limits {
     Mode,
 }
 
-/// The limits of the i-th number of the raw order.
+/// The limits of the i-th number of the raw order. A second gate line and a
+/// second pattern may also be 65,535.
 pub fn limits(i: usize) -> Limits {
     use Limits::*;
     match i {
@@ -197,10 +225,10 @@ pub fn limits(i: usize) -> Limits {
         },
         353 => Flag,
         354 | 355 => Between(1, 4095),
-        356 => Between(0, 4094),
-        357 => Between(0, 9),
-        358 => Between(1, 7),
-        _ => match (i - 359) % 3 {
+        356 | 357 => Between(0, 4094),
+        358 => Between(0, 9),
+        359 => Between(1, 7),
+        _ => match (i - 360) % 3 {
             0 => Between(0, 4094),
             1 => Between(0, 9),
             _ => Mode,
@@ -229,6 +257,18 @@ pub fn short_script(profile: &Profile) -> Vec<u8> {
     short_records(profile).concat()
 }
 
+/// A field record without a second gate line in the new form, 65,535 after its
+/// gate line; any other record as it is.
+pub fn in_new_form(record: &[u8]) -> Vec<u8> {
+    let mut out = record.to_vec();
+    let body = record.len() - 4;
+    if record[2] == 3 && body % 6 == 4 {
+        out[0] = body as u8 + 2;
+        out.splice(10..10, NO_GATE2.to_le_bytes());
+    }
+    out
+}
+
 pub fn register(address: u8, data: u32) -> Vec<u8> {
     let d = data.to_le_bytes();
     vec![4, 0, 1, 0, address, d[0], d[1], d[2]]
@@ -250,6 +290,12 @@ pub const SEQUENCE_A: [u8; 18] =
 pub const FIELD_A: [u8; 20] = [
     0x10, 0x00, 0x03, 0x00, 0x02, 0x00, 0x0A, 0x00, 0x00, 0x00, 0xFF, 0xFF, 0x01, 0x00, 0x00, 0x00, 0x00, 0x00, 0x00,
     0x00,
+];
+
+/// A's field with second gate line 1.
+pub const FIELD_A_TWO: [u8; 22] = [
+    0x12, 0x00, 0x03, 0x00, 0x02, 0x00, 0x0A, 0x00, 0x00, 0x00, 0x01, 0x00, 0xFF, 0xFF, 0x01, 0x00, 0x00, 0x00, 0x00,
+    0x00, 0x00, 0x00,
 ];
 
 /// A record whose header and body are as told, right or not.

@@ -12,8 +12,11 @@ pub const OUTPUTS: usize = 6;
 /// "second pattern 0..9 or 65,535 for none"
 pub const NO_SECOND: u16 = 65_535;
 
+/// A second gate line: "0..4094, or 65,535 for none"
+pub const NO_GATE2: u16 = 65_535;
+
 /// Numbers of a profile in its raw order.
-pub const NUMBERS: usize = 380;
+pub const NUMBERS: usize = 381;
 
 /// "mode 0 plain, 1 sweep, 2 multiplier"
 #[derive(Clone, Copy, PartialEq, Eq, Debug, Default)]
@@ -104,8 +107,10 @@ pub struct Field {
     pub lines: u16,
     /// last-line length
     pub last: u16,
-    /// gate line
+    /// gate line, the one named first
     pub gate: u16,
+    /// second gate line, or `NO_GATE2`
+    pub gate2: u16,
     /// second pattern, or `NO_SECOND`
     pub second: u16,
     /// number of regions, 01's n
@@ -186,7 +191,7 @@ impl Profile {
 // The raw order: registers, sequences, gates, SUBCK, shutters, field.
 
 impl Profile {
-    /// The profile as its 380 numbers in the raw order.
+    /// The profile as its 381 numbers in the raw order.
     pub fn numbers(&self) -> Vec<u16> {
         let mut out = self.registers.to_vec();
         for s in &self.sequences {
@@ -201,15 +206,15 @@ impl Profile {
             out.extend([s.present as u16, s.active, s.on_line, s.on_pixel, s.off_line, s.off_pixel]);
         }
         let f = &self.field;
-        out.extend([f.present as u16, f.lines, f.last, f.gate, f.second, f.count]);
+        out.extend([f.present as u16, f.lines, f.last, f.gate, f.gate2, f.second, f.count]);
         for r in &f.regions {
             out.extend([r.first, r.sequence, r.mode.number()]);
         }
         out
     }
 
-    /// The profile of 380 numbers in the raw order; nothing where there are not
-    /// 380, a present flag is neither 0 nor 1, or a mode is none of 0, 1, 2.
+    /// The profile of 381 numbers in the raw order; nothing where there are not
+    /// 381, a present flag is neither 0 nor 1, or a mode is none of 0, 1, 2.
     pub fn from_numbers(numbers: &[u16]) -> Option<Profile> {
         if numbers.len() != NUMBERS {
             return None;
@@ -262,6 +267,7 @@ impl Profile {
         f.lines = rest.number();
         f.last = rest.number();
         f.gate = rest.number();
+        f.gate2 = rest.number();
         f.second = rest.number();
         f.count = rest.number();
         for r in &mut f.regions {

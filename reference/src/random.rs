@@ -6,7 +6,7 @@ use crate::list::steps_needed;
 use crate::make::*;
 use crate::profile::*;
 use crate::ranges::check_ranges;
-use crate::rules::{check, line_length, region_of_line, region_size, repetitions};
+use crate::rules::{check, gate_lines, line_length, region_of_line, region_size, repetitions};
 use crate::script::{records, SCRIPT_MOST};
 
 /// A batch of `count` cases; the same seed gives the same batch.
@@ -158,7 +158,7 @@ fn valid(rng: &mut Rng, size: Size) -> Profile {
         fill_region(rng, &mut p, i);
     }
     share(rng, &mut p);
-    if rng.percent(50) {
+    if rng.percent(70) {
         second_pattern(rng, &mut p);
     }
     gates(rng, &mut p);
@@ -219,6 +219,18 @@ fn layout(rng: &mut Rng, p: &mut Profile, size: Size) {
     let last = rng.edgy(1, size.length) as u16;
     let gate_line = rng.edgy(0, lines - 1) as u16;
     p.field = field(lines as u16, last, gate_line, NO_SECOND, &regions);
+    if lines > 1 && rng.percent(60) {
+        p.field.gate2 = another_line(rng, lines, gate_line as u64);
+    }
+}
+
+/// A line before or after the gate line: any, the one beside it, or the last.
+fn another_line(rng: &mut Rng, lines: u64, gate_line: u64) -> u16 {
+    let last = lines - 1;
+    if gate_line != last && rng.percent(15) {
+        return last as u16;
+    }
+    ((gate_line + rng.edgy(1, last)) % lines) as u16
 }
 
 fn fill_region(rng: &mut Rng, p: &mut Profile, i: usize) {
@@ -351,13 +363,12 @@ fn share(rng: &mut Rng, p: &mut Profile) {
     }
 }
 
-/// A second pattern, where the gate line lies in a plain region of this count
-/// alone; the line's count is lowered to end before it.
+/// A second pattern, where all gate lines lie in plain regions; the lines'
+/// counts are lowered to end before it.
 fn second_pattern(rng: &mut Rng, p: &mut Profile) {
-    let line = p.field.gate as u64;
-    let region = region_of_line(p, line);
-    let length = line_length(p, line);
-    if p.field.regions[region].mode != Mode::Plain || length < 2 {
+    let length = shortest_gate_line(p);
+    let plain = gate_lines(p).all(|line| p.field.regions[region_of_line(p, line)].mode == Mode::Plain);
+    if !plain || length < 2 {
         return;
     }
     let used: Vec<u16> = (0..p.field.count as usize).map(|i| p.sequence_of(i).pattern).collect();
@@ -370,11 +381,11 @@ fn second_pattern(rng: &mut Rng, p: &mut Profile) {
         let any_pairs = pairs(rng, 0, 1);
         set_pattern(p, second as usize, levels, second_length as u16, &toggles, any_pairs);
         p.field.second = second;
-        let first_length = p.pattern(p.sequence_of(region).pattern).length;
-        let s = sequence_mut(p, region);
-        let most = second_length.saturating_sub(s.start as u64) / first_length;
-        let count = if line % 2 == 0 { &mut s.odd } else { &mut s.even };
-        *count = (*count).min(most as u16);
+        for line in gate_lines(p) {
+            let most = most_before(p, line, second_length);
+            let count = count_mut(p, line);
+            *count = (*count).min(most);
+        }
     });
     // A shared sequence may no longer suit its other region.
     if check(&tried).is_ok() {
@@ -382,8 +393,30 @@ fn second_pattern(rng: &mut Rng, p: &mut Profile) {
     }
 }
 
+fn shortest_gate_line(p: &Profile) -> u64 {
+    gate_lines(p).map(|line| line_length(p, line)).min().expect("at least one gate line")
+}
+
+/// The most repetitions on a line that end at or before a pixel.
+fn most_before(p: &Profile, line: u64, pixel: u64) -> u16 {
+    let s = p.sequence_of(region_of_line(p, line));
+    // A broken rule may have left the pattern without length.
+    let length = p.pattern(s.pattern).length.max(1);
+    (pixel.saturating_sub(s.start as u64) / length) as u16
+}
+
+/// A line's repetitions, to be changed.
+fn count_mut(p: &mut Profile, line: u64) -> &mut u16 {
+    let s = sequence_mut(p, region_of_line(p, line));
+    if line % 2 == 0 {
+        &mut s.odd
+    } else {
+        &mut s.even
+    }
+}
+
 fn gates(rng: &mut Rng, p: &mut Profile) {
-    let length = line_length(p, p.field.gate as u64);
+    let length = shortest_gate_line(p);
     for g in &mut p.gates {
         if rng.percent(40) {
             continue;
@@ -439,11 +472,11 @@ fn move_number(rng: &mut Rng, p: &mut Profile, in_range: bool) {
         Limits::Flag => 1 - old,
         Limits::Mode => (old + rng.between(1, 2) as u16) % 3,
         Limits::Between(least, most) if in_range => {
-            let other = numbers[rng.between(240, 379) as usize];
+            let other = numbers[rng.between(240, NUMBERS as u64 - 1) as usize];
             let near = [old.wrapping_add(1), old.saturating_sub(1)];
             rng.pick(&[near[0], near[1], near[0], near[1], least, most, other]).clamp(least, most)
         }
-        Limits::Between(least, most) => rng.pick(&[most + 1, most + 1, least.wrapping_sub(1), 65_535]),
+        Limits::Between(least, most) => rng.pick(&[most + 1, most + 1, least.wrapping_sub(1), 65_534, 65_535]),
     };
     *p = with_number(p, i, value);
 }
@@ -455,8 +488,8 @@ fn number_to_move(rng: &mut Rng, p: &Profile) -> usize {
     let pattern = (p.sequences[sequence].pattern as usize).min(9);
     let second = (p.field.second as usize).min(9);
     match rng.below(20) {
-        0..=3 => 353 + rng.below(6) as usize,
-        4..=6 => 359 + 3 * region + rng.below(3) as usize,
+        0..=3 => 353 + rng.below(7) as usize,
+        4..=6 => 360 + 3 * region + rng.below(3) as usize,
         7..=9 => 240 + 7 * sequence + rng.below(7) as usize,
         10..=13 => 24 * pattern + rng.below(24) as usize,
         14 => 24 * second + rng.below(24) as usize,
@@ -469,9 +502,15 @@ fn number_to_move(rng: &mut Rng, p: &Profile) -> usize {
 
 /// Breaks a few rules of a profile that is accepted. The last goes first: each
 /// edit needs that the rules before its own still hold. 10 is broken most often:
-/// it has an answer for each output and toggle.
+/// it has an answer for each output and toggle; then 14 and 15, which can be
+/// broken on each gate line.
 fn break_rules(rng: &mut Rng, p: &mut Profile, count: u64) {
-    let rule = |rng: &mut Rng| if rng.percent(20) { 10 } else { rng.between(6, 17) };
+    let rule = |rng: &mut Rng| match rng.below(10) {
+        0 | 1 => 10,
+        2 => 14,
+        3 => 15,
+        _ => rng.between(6, 17),
+    };
     let mut rules: Vec<u64> = (0..count).map(|_| rule(rng)).collect();
     rules.sort();
     for rule in rules.into_iter().rev() {
@@ -543,23 +582,56 @@ fn break_run(rng: &mut Rng, p: &mut Profile, i: usize) {
     sequence_mut(p, i).start = start.min(4095) as u16;
 }
 
+/// The gate lines moved; or the second pattern wrong on them, often on one alone.
 fn break_gate_line(rng: &mut Rng, p: &mut Profile) {
-    match rng.below(6) {
-        0 => p.field.gate = p.field.lines.min(4094),
-        1 => p.field.second = rng.below(10) as u16,
-        2 => p.field.gate = rng.below(p.field.lines as u64) as u16,
-        3 => {
-            let second = if p.field.second == NO_SECOND { rng.below(10) as u16 } else { p.field.second };
-            let line = line_length(p, p.field.gate as u64);
-            let length = rng.pick(&[0, 1, line - 1, line, p.pattern(second).length.saturating_sub(1)]);
-            p.field.second = second;
+    if p.field.second == NO_SECOND || rng.percent(30) {
+        move_gate_line(rng, p);
+    } else {
+        break_second(rng, p);
+    }
+}
+
+/// A gate line outside, on the last line, equal to the other or anywhere; or
+/// another second pattern.
+fn move_gate_line(rng: &mut Rng, p: &mut Profile) {
+    let outside = p.field.lines.min(4094);
+    let last = p.field.lines - 1;
+    let any = rng.below(p.field.lines as u64) as u16;
+    match rng.below(9) {
+        0 => p.field.gate = outside,
+        1 => p.field.gate2 = outside,
+        2 => p.field.gate2 = p.field.gate,
+        3 => p.field.gate = any,
+        4 => p.field.gate2 = any,
+        5 => p.field.gate = last,
+        6 => p.field.gate2 = last,
+        7 if p.field.gate2 != NO_GATE2 => set_gate_lines(p, p.field.gate2, p.field.gate),
+        _ => p.field.second = rng.below(10) as u16,
+    }
+}
+
+/// One clause of 14 about the second pattern broken, or brought to its edge: its
+/// length and toggles; the run before it and the mode on one of the gate lines;
+/// or one of them moved to where the pattern may not suit.
+fn break_second(rng: &mut Rng, p: &mut Profile) {
+    let second = p.field.second;
+    let line = a_gate_line(rng, p);
+    let region = region_of_line(p, line);
+    match rng.below(9) {
+        0 | 1 => {
+            let (most, shortest) = (line_length(p, line), shortest_gate_line(p));
+            let length = rng.pick(&[0, 1, most - 1, most, shortest, shortest, p.pattern(second).length.saturating_sub(1)]);
             set_length(p, second as usize, length as u16);
         }
-        4 if p.field.second != NO_SECOND => break_toggles(rng, p, p.field.second as usize),
-        // Only the mode of the gate line's region is wrong for a second pattern.
+        2 => break_toggles(rng, p, second as usize),
+        3 | 4 => {
+            let most = most_before(p, line, p.pattern(second).length);
+            *count_mut(p, line) = (most + rng.below(2) as u16).min(4095);
+        }
+        5 | 6 => p.field.gate = another_line(rng, p.field.lines.max(2) as u64, p.field.gate as u64),
+        7 => p.field.gate2 = another_line(rng, p.field.lines.max(2) as u64, p.field.gate as u64),
+        // Only the mode of the region is wrong for a second pattern.
         _ => {
-            let line = p.field.gate as u64;
-            let region = region_of_line(p, line);
             let count = repetitions(p.sequence_of(region), line) as u16;
             p.field.regions[region].mode = Mode::Sweep;
             let s = sequence_mut(p, region);
@@ -568,13 +640,24 @@ fn break_gate_line(rng: &mut Rng, p: &mut Profile) {
     }
 }
 
+fn a_gate_line(rng: &mut Rng, p: &Profile) -> u64 {
+    let lines: Vec<u64> = gate_lines(p).collect();
+    rng.pick(&lines)
+}
+
+/// A pulse at the edge of what one of the gate lines has room for, often the
+/// longer one.
 fn break_gate(rng: &mut Rng, p: &mut Profile) {
-    let length = line_length(p, p.field.gate as u64) as u16;
+    let line = a_gate_line(rng, p);
+    let length = line_length(p, line) as u16;
+    let longest = gate_lines(p).map(|line| line_length(p, line) as u16).max().unwrap_or(length);
     let (toggle1, toggle2) = (rng.below(length as u64) as u16, rng.below(length as u64) as u16);
     let which = rng.below(5) as usize;
     p.gates[which] = rng.pick(&[
         gate(1, 0, toggle1, length),
         gate(1, 1, toggle1, length - 1),
+        gate(1, 0, 0, longest - 1),
+        gate(1, 1, toggle1.min(longest / 2), longest - 1),
         gate(1, 1, toggle1, toggle1),
         gate(1, 0, toggle1, toggle2),
         gate(0, 1, toggle1, toggle1),
@@ -655,6 +738,11 @@ fn script_records(rng: &mut Rng) -> Vec<Vec<u8>> {
         p = any_profile(rng);
     }
     let mut list = if rng.percent(20) { records(&p) } else { short_records(&p) };
+    if rng.percent(40) {
+        for record in &mut list {
+            *record = in_new_form(record);
+        }
+    }
     if rng.percent(60) {
         rng.shuffle(&mut list);
     }
@@ -706,7 +794,7 @@ fn move_in_record(rng: &mut Rng, records: &mut [Vec<u8>]) {
     let Some(record) = records.get_mut(which) else { return };
     let at = 4 + 2 * rng.below((record.len() as u64 - 4) / 2) as usize;
     let old = u16::from_le_bytes([record[at], record[at + 1]]);
-    let value = rng.pick(&[old.wrapping_add(1), old.wrapping_sub(1), 0, 1, 3, 4, 9, 10, 4094, 4095, 4096, 65_535, old ^ 0x100]);
+    let value = rng.pick(&[old.wrapping_add(1), old.wrapping_sub(1), 0, 1, 3, 4, 9, 10, 4094, 4095, 4096, 65_534, 65_535, old ^ 0x100]);
     record[at..at + 2].copy_from_slice(&value.to_le_bytes());
 }
 
@@ -716,7 +804,7 @@ fn damage_header(rng: &mut Rng, records: &mut [Vec<u8>]) {
     }
     let which = rng.below(records.len() as u64) as usize;
     let at = rng.pick(&[0, 0, 1, 2, 2, 2, 3]);
-    records[which][at] = rng.pick(&[0, 1, 2, 3, 4, 5, 6, 7, 10, 12, 14, 16, 22, 28, 52, 58, 255]);
+    records[which][at] = rng.pick(&[0, 1, 2, 3, 4, 5, 6, 7, 10, 12, 14, 16, 18, 22, 24, 28, 52, 54, 58, 60, 255]);
 }
 
 /// Registers before the script, up to about the most a script may have.
@@ -752,8 +840,8 @@ fn level_case(rng: &mut Rng) -> Case {
     let line = match rng.below(12) {
         0 => rng.wide(1),
         1 => profile.field.lines as u64,
-        2 | 3 => profile.field.gate as u64,
-        4 => profile.field.lines.saturating_sub(1) as u64,
+        2..=4 => a_gate_line(rng, &profile),
+        5 => profile.field.lines.saturating_sub(1) as u64,
         _ => rng.edgy(0, profile.field.lines.saturating_sub(1) as u64),
     };
     let length = length_or_9(&profile, line);

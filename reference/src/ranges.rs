@@ -53,12 +53,13 @@ pub fn sequence_in_range(s: &Sequence) -> bool {
 }
 
 /// "lines 1..4095, last-line length 1..4095, gate line 0..4094, second pattern
-/// 0..9 or 65,535 for none, n [1..7], then n regions". A region past n is all
-/// zeros.
+/// 0..9 or 65,535 for none, n [1..7], then n regions"; the second gate line
+/// "0..4094, or 65,535 for none". A region past n is all zeros.
 pub fn field_in_range(f: &Field) -> bool {
     (1..=4095).contains(&f.lines)
         && (1..=4095).contains(&f.last)
         && f.gate <= 4094
+        && (f.gate2 <= 4094 || f.gate2 == NO_GATE2)
         && (f.second <= 9 || f.second == NO_SECOND)
         && (1..=7).contains(&f.count)
         && f.regions[..f.count as usize].iter().all(region_in_range)

@@ -25,7 +25,7 @@ pub fn check_rules(profile: &Profile) -> Result<(), Refusal> {
     for region in 0..profile.regions().len() {
         check_region(profile, region)?;
     }
-    check_gate_line(profile)?;
+    check_gate_lines(profile)?;
     for gate in 0..GATES {
         check_gate(profile, gate)?;
     }
@@ -202,20 +202,35 @@ pub fn second_pattern(profile: &Profile) -> Option<Pattern> {
     }
 }
 
-/// 14: "the gate line is below the line count. With a second pattern: ..."
-fn check_gate_line(profile: &Profile) -> Result<(), Refusal> {
-    demand(profile.field.gate < profile.field.lines, GATE_LINE_OR_SECOND, 0)?;
+/// The gate lines: the one named first, then the second where there is one.
+pub fn gate_lines(profile: &Profile) -> impl Iterator<Item = u64> {
+    let Field { gate, gate2, .. } = profile.field;
+    let second = if gate2 == NO_GATE2 { None } else { Some(gate2 as u64) };
+    [gate as u64].into_iter().chain(second)
+}
+
+/// 14: "the gate line is below the line count. With a second pattern: ..." Of
+/// two gate lines: "The lines must differ and lie in the field (14), gates and
+/// the second pattern act on both, and rules 14 and 15 hold for both."
+fn check_gate_lines(profile: &Profile) -> Result<(), Refusal> {
+    let inside = gate_lines(profile).all(|line| line < profile.field.lines as u64);
+    // Without a second one they differ too: no gate line is 65,535.
+    let differ = profile.field.gate != profile.field.gate2;
+    demand(inside && differ, GATE_LINE_OR_SECOND, 0)?;
     match second_pattern(profile) {
         None => Ok(()),
-        Some(second) => demand(second_allowed(profile, &second), GATE_LINE_OR_SECOND, 0),
+        Some(second) => {
+            let allowed = gate_lines(profile).all(|line| second_allowed(profile, &second, line));
+            demand(allowed, GATE_LINE_OR_SECOND, 0)
+        }
     }
 }
 
-/// "its line lies in a plain region, its length is not 0, its toggles obey 10,
-/// its length is below the gate line's length, and if that line's repetitions r
-/// are not 0, start + r × first length is at most the second's length."
-fn second_allowed(profile: &Profile, second: &Pattern) -> bool {
-    let line = profile.field.gate as u64;
+/// Of one gate line: "its line lies in a plain region, its length is not 0, its
+/// toggles obey 10, its length is below the gate line's length, and if that
+/// line's repetitions r are not 0, start + r × first length is at most the
+/// second's length."
+fn second_allowed(profile: &Profile, second: &Pattern, line: u64) -> bool {
     let region = region_of_line(profile, line);
     let sequence = profile.sequence_of(region);
     let first = profile.pattern(sequence.pattern);
@@ -228,13 +243,12 @@ fn second_allowed(profile: &Profile, second: &Pattern) -> bool {
 }
 
 /// 15: "a gate that is on has toggle 1 below toggle 2 below the gate line's
-/// length."
+/// length", of each gate line.
 fn check_gate(profile: &Profile, number: usize) -> Result<(), Refusal> {
     let gate = &profile.gates[number];
-    let length = line_length(profile, profile.field.gate as u64);
     let off = !gate.present || gate.on == 0;
-    let pulse = gate.toggle1 < gate.toggle2 && (gate.toggle2 as u64) < length;
-    demand(off || pulse, GATE_PULSE, number)
+    let fits = gate_lines(profile).all(|line| (gate.toggle2 as u64) < line_length(profile, line));
+    demand(off || (gate.toggle1 < gate.toggle2 && fits), GATE_PULSE, number)
 }
 
 /// 16: "toggle 1 below toggle 2, suppressed lines at least 1."

@@ -68,12 +68,34 @@ fn length_allowed(kind: u16, length: usize) -> bool {
     match kind {
         KIND_REGISTER => length == 4,
         KIND_SEQUENCE => length == 14,
-        KIND_FIELD => (1..=7).any(|n| length == 10 + 6 * n),
+        KIND_FIELD => field_form(length).is_some(),
         KIND_GATE => length == 10,
         KIND_SUBCK => length == 10,
         KIND_SHUTTER => length == 12,
         _ => false,
     }
+}
+
+/// The two forms of a field record.
+enum Form {
+    /// "10 + 6n bytes": "still read and means none"
+    OneGateLine,
+    /// "The field record gains a second gate line after the first: body 12 + 6n"
+    TwoGateLines,
+}
+
+/// The form of a field record and its n, 1 to 7, by the length of its body
+/// alone; nothing where no form has that length.
+fn field_form(length: usize) -> Option<(Form, usize)> {
+    for n in 1..=REGIONS {
+        if length == 10 + 6 * n {
+            return Some((Form::OneGateLine, n));
+        }
+        if length == 12 + 6 * n {
+            return Some((Form::TwoGateLines, n));
+        }
+    }
+    None
 }
 
 /// The i-th 2-byte little-endian number.
@@ -133,22 +155,29 @@ fn take_sequence(body: &[u8], profile: &mut Profile) -> Option<()> {
 
 /// "An n that disagrees with the length is refusal 5."
 fn take_field(body: &[u8], profile: &mut Profile) -> Option<()> {
-    let n = (body.len() - 10) / 6;
+    let (form, n) = field_form(body.len())?;
+    // The second gate line, and where the numbers after the gate lines begin.
+    let (gate2, after) = match form {
+        Form::OneGateLine => (NO_GATE2, 3),
+        Form::TwoGateLines => (number(body, 3), 4),
+    };
     let mut field = Field {
         present: true,
         lines: number(body, 0),
         last: number(body, 1),
         gate: number(body, 2),
-        second: number(body, 3),
-        count: number(body, 4),
+        gate2,
+        second: number(body, after),
+        count: number(body, after + 1),
         regions: [Region::default(); REGIONS],
     };
     only_if(field.count as usize == n)?;
     for i in 0..n {
+        let at = after + 2 + 3 * i;
         field.regions[i] = Region {
-            first: number(body, 5 + 3 * i),
-            sequence: number(body, 6 + 3 * i),
-            mode: Mode::from_number(number(body, 7 + 3 * i))?,
+            first: number(body, at),
+            sequence: number(body, at + 1),
+            mode: Mode::from_number(number(body, at + 2))?,
         };
     }
     only_if(field_in_range(&field))?;
@@ -241,8 +270,13 @@ fn register_record(profile: &Profile, address: usize) -> Vec<u8> {
     vec![4, 0, KIND_REGISTER as u8, 0, address as u8, data[0], data[1], data[2]]
 }
 
+/// "The writer uses the old form when there is no second gate line".
 fn field_record(f: &Field) -> Vec<u8> {
-    let mut numbers = vec![f.lines, f.last, f.gate, f.second, f.count];
+    let mut numbers = vec![f.lines, f.last, f.gate];
+    if f.gate2 != NO_GATE2 {
+        numbers.push(f.gate2);
+    }
+    numbers.extend([f.second, f.count]);
     for r in f.regions.iter().take(f.count as usize) {
         numbers.extend([r.first, r.sequence, r.mode.number()]);
     }

@@ -1,5 +1,7 @@
 //! Cases computed by hand from 01, and what the batches must cover.
 
+mod gate_lines;
+
 use crate::case::{answer, decode_batch, Case};
 use crate::list::{compile, play, Compiled};
 use crate::make::*;
@@ -164,13 +166,10 @@ fn playing_takes_counts_off_the_position() {
 }
 
 #[test]
-fn written_scripts_are_998_to_1312_bytes_and_read_back() {
-    let most = with(&profile_rich(), |p| {
-        for i in 7..10 {
-            p.sequences[i] = sequence(i as u16, 9, 1, 2, 3, 1);
-        }
-    });
-    for (p, length) in [(profile_a(), 998), (most, 1312)] {
+fn written_scripts_are_998_to_1314_bytes_and_read_back() {
+    let a_two = with(&profile_a(), |p| p.field.gate2 = 1);
+    let most = [profile_rich(), profile_two()].map(|p| with_all_sequences(&p));
+    for (p, length) in [(profile_a(), 998), (a_two, 1000), (most[0], 1312), (most[1], 1314)] {
         let mut slice = lent_slice(length);
         assert_eq!(write(&p, &mut slice[..length - 1]), refused(18, length));
         assert_eq!(slice, lent_slice(length));
@@ -264,8 +263,11 @@ fn a_random_batch_names_every_output_and_toggle() {
 /// what it means to break.
 #[test]
 fn the_bases_are_accepted() {
-    for p in [profile_a(), profile_rich(), profile_seven(Mode::Plain), profile_seven(Mode::Sweep), profile_seven(Mode::Multiplier)] {
+    for p in [profile_a(), profile_rich(), profile_two(), with_all_sequences(&profile_two())] {
         assert_eq!(check(&p), Ok(()));
+    }
+    for mode in [Mode::Plain, Mode::Sweep, Mode::Multiplier] {
+        assert_eq!(check(&profile_seven(mode)), Ok(()));
     }
 }
 

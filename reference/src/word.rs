@@ -36,7 +36,8 @@ pub struct Line<'a> {
     pattern: Pattern,
     /// pixels of the region before this line
     before: u64,
-    /// the second pattern, on the gate line
+    on_gate_line: bool,
+    /// the second pattern, on a gate line
     second: Option<Pattern>,
 }
 
@@ -45,7 +46,8 @@ impl<'a> Line<'a> {
         let number = region_of_line(profile, line);
         let region = &profile.field.regions[number];
         let sequence = profile.sequence_of(number);
-        let on_gate_line = line == profile.field.gate as u64;
+        // "gates and the second pattern act on both"
+        let on_gate_line = gate_lines(profile).any(|gate_line| line == gate_line);
         Line {
             profile,
             line,
@@ -56,6 +58,7 @@ impl<'a> Line<'a> {
             // Only the field's last line has another length, and no line of its
             // region follows it.
             before: (line - region.first as u64) * sequence.length as u64,
+            on_gate_line,
             second: if on_gate_line { second_pattern(profile) } else { None },
         }
     }
@@ -92,7 +95,7 @@ impl<'a> Line<'a> {
 
     /// "Second pattern: on the gate line, from the pixel equal to its length,
     /// its start level flipped for each used toggle at or below pixel −
-    /// length." Before that, the region's own pattern.
+    /// length." Before that, the region's own pattern. On both gate lines alike.
     fn v_unmasked(&self, pixel: u64) -> u16 {
         match &self.second {
             Some(second) if pixel >= second.length => {
@@ -141,18 +144,20 @@ impl<'a> Line<'a> {
     }
 
     /// "VSG: on the gate line, if on, the start level flipped for each toggle
-    /// at or below the pixel; else the start level. Absent: 1."
+    /// at or below the pixel; else the start level. Absent: 1." On both gate
+    /// lines alike.
     fn gate(&self, gate: &Gate, pixel: u64) -> u16 {
         if !gate.present {
             return 1;
         }
-        let pulses = self.line == self.profile.field.gate as u64 && gate.on == 1;
+        let pulses = self.on_gate_line && gate.on == 1;
         pulse(gate.level, pulses, gate.toggle1, gate.toggle2, pixel)
     }
 
     /// "SUBCK: with suppression s and count c, flips the same way on lines from
     /// gate line + s to below gate line + s + c, inside the field; else its
-    /// start level. Absent: 1."
+    /// start level. Absent: 1." "SUBCK still counts from the one named first",
+    /// also where it is the later line.
     fn subck(&self, pixel: u64) -> u16 {
         let subck = &self.profile.subck;
         if !subck.present {

@@ -54,12 +54,14 @@ place-length line pixel h g =
     simp length-append (omega (arith, decimal-length line 19 (omega arith), decimal-length pixel 19 (omega arith)))
 
 pub figures-length :
-    (f : Figures) → f .first < 2 ^ 64 → f .second < 2 ^ 64 → f .third < 2 ^ 64 → length (figuresLine f) ≤ longestScript
+    (f : Figures) → f .first < 2 ^ 64 → f .second < 2 ^ 64 → f .third < 2 ^ 64 → f .fourth < 2 ^ 64 →
+    length (figuresLine f) ≤ longestScript
 unfolding figuresLine
-figures-length f h g k =
+figures-length f h g k m =
     let a = decimal-length (f .first) 19 (omega arith) in
     let b = decimal-length (f .second) 19 (omega arith) in
-    simp length-append (omega (arith, a, b, decimal-length (f .third) 19 (omega arith)))
+    let c = decimal-length (f .third) 19 (omega arith) in
+    simp length-append (omega (arith, a, b, c, decimal-length (f .fourth) 19 (omega arith)))
 
 pub verdict-length : (v : Verdict) → Wide v → length (refusedLine v) ≤ longestScript
 verdict-length v w = omega (arith, refused-length v w)

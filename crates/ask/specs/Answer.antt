@@ -40,7 +40,9 @@ unfoldable pub placeLine : ℕ → ℕ → List ℕ
 placeLine line pixel = lineWord ++ decimal line ++ pixelWord ++ decimal pixel ++ (10 ∷ [])
 
 unfoldable pub figuresLine : Figures → List ℕ
-figuresLine f = decimal (f .first) ++ (32 ∷ []) ++ decimal (f .second) ++ (32 ∷ []) ++ decimal (f .third) ++ (10 ∷ [])
+figuresLine f =
+    decimal (f .first) ++ (32 ∷ []) ++ decimal (f .second) ++ (32 ∷ []) ++ decimal (f .third) ++ (32 ∷ []) ++ decimal (f .fourth)
+    ++ (10 ∷ [])
 
 -- ---- answers
 

@@ -1,4 +1,4 @@
--- The three numbers that the sentence of a refusal tells besides those that are printed (docs/RULES.md, "Refusals"): by the refusal's number, of the record at its
+-- The four numbers that the sentence of a refusal tells besides those that are printed (docs/RULES.md, "Refusals"): by the refusal's number, of the record at its
 -- place or of the profile that the script's records give.
 -- Assumes nothing.
 use Prim.Native.Nat.{ℕ, _+_, _-_, _*_}
@@ -10,7 +10,7 @@ use Rattle.profile.specs.Bytes.{numberAt}
 use Rattle.profile.specs.Values.{emptyProfile}
 use Rattle.profile.specs.Script.{records, readScript}
 use Rattle.profile.specs.Patterns.{rowOf}
-use Rattle.profile.specs.Geometry.{regionAt, firstLine, gateOf, shutterOf, sequenceAt, patternAt, lineLength, regionSize}
+use Rattle.profile.specs.Geometry.{regionAt, firstLine, gateOf, shutterOf, sequenceAt, patternAt, gateLength, regionSize}
 use Rattle.profile.specs.declared.Pattern.{Pattern}
 use Rattle.profile.specs.declared.Tables.{Tables}
 use Rattle.profile.specs.declared.Field.{Field}
@@ -18,8 +18,11 @@ use Rattle.profile.specs.declared.Profile.{Profile}
 use Rattle.profile.specs.declared.Verdict.{Verdict}
 use Rattle.ask.specs.declared.figures.Figures.{Figures}
 
+abbrev pub fourFigures : ℕ → ℕ → ℕ → ℕ → Figures
+fourFigures a b c d = record { first = a; second = b; third = c; fourth = d }
+
 abbrev pub figures : ℕ → ℕ → ℕ → Figures
-figures a b c = record { first = a; second = b; third = c }
+figures a b c = fourFigures a b c 0
 
 abbrev pub noFigures : Figures
 noFigures = figures 0 0 0
@@ -52,12 +55,12 @@ regionFigures t f n i =
     (cond (eqb n 12) (figures (sequenceAt t f i .odd) (sequenceAt t f i .even) 0)
     (cond (eqb n 13) (runFigures t f i) (figures (sequenceAt t f i .pattern) (sequenceAt t f i .mask) 0))))
 
--- 14: the gate line, the line count, and the second pattern; 15: the toggles of gate i, and the gate line's length; 16: SUBCK's toggles, and the
--- suppressed lines; 17: the lines on which shutter i goes on and off
+-- 14: the gate line, the second one, the line count, and the second pattern; 15: the toggles of gate i, and the length of the shortest gate line; 16: SUBCK's
+-- toggles, and the suppressed lines; 17: the lines on which shutter i goes on and off
 unfoldable pub fieldFigures : Tables → Field → ℕ → ℕ → Figures
 fieldFigures t f n i =
-    cond (eqb n 14) (figures (f .gate) (f .lines) (f .second))
-    (cond (eqb n 15) (figures (gateOf t i .toggle1) (gateOf t i .toggle2) (lineLength t f (f .gate)))
+    cond (eqb n 14) (fourFigures (f .gate) (f .gate2) (f .lines) (f .second))
+    (cond (eqb n 15) (figures (gateOf t i .toggle1) (gateOf t i .toggle2) (gateLength t f))
     (cond (eqb n 16) (figures (t .subck .toggle1) (t .subck .toggle2) (t .subck .suppressed))
     (figures (shutterOf t i .«on_line») (shutterOf t i .«off_line») 0)))
 

@@ -24,6 +24,7 @@ ghost use mathlib.Core.Bool.{cond};
 ghost use mathlib.Core.List.{[]};
 ghost use Prim.Native.Nat.{_≤_};
 ghost use lib.ListN.{length, take};
+ghost use Rattle.profile.specs.Writing.{longestScript};
 ghost use Rattle.holdlist.specs.Text.{valueOf, refusedLine};
 ghost use Rattle.ask.specs.Question.{numbersOf, firstOf, secondOf, alone as aloneLine, withOne, withTwo};
 ghost use Rattle.ask.specs.Answer.{acceptedLine, wordLine, placeLine, figuresLine, levelText, locateText, writeText, checkAsked, writeAsked, levelAsked, locateAsked, figuresAsked, answerOf, asked};
@@ -69,7 +70,9 @@ fn put_figures_line(out: &mut [u8], figures: Figures) -> usize
     let c = put_decimal(out, b, figures.second);
     let d = put_byte(out, c, 32);
     let e = put_decimal(out, d, figures.third);
-    put_byte(out, e, 10)
+    let f = put_byte(out, e, 32);
+    let g = put_decimal(out, f, figures.fourth);
+    put_byte(out, g, 10)
 }
 
 // ---- what the entry points answer
@@ -95,10 +98,12 @@ fn put_locate_text(out: &mut [u8], answer: Located) -> usize
 }
 
 // Room for the longest script.
-fn script_room() -> [u8; 1312]
-    ensures { λ r. ⌜ 1312 ≡ length r ⌝ }
+const LONGEST_SCRIPT: usize = 1314;
+
+fn script_room() -> [u8; LONGEST_SCRIPT]
+    ensures { λ r. ⌜ longestScript ≡ length r ⌝ }
 {
-    [0; 1312]
+    [0; LONGEST_SCRIPT]
 }
 
 fn put_write_text(out: &mut [u8], profile: Profile) -> usize

@@ -1,4 +1,4 @@
-// The figures of a refusal: the three numbers that its sentence tells besides those that are printed.
+// The figures of a refusal: the four numbers that its sentence tells besides those that are printed.
 use crate::question::byte_at;
 use profile::Field;
 use profile::Pattern;
@@ -6,8 +6,8 @@ use profile::Profile;
 use profile::Tables;
 use profile::Verdict;
 use profile::end_line;
+use profile::gate_length;
 use profile::gate_of;
-use profile::line_length;
 use profile::pattern_of;
 use profile::read_records;
 use profile::region_at;
@@ -21,12 +21,13 @@ ghost use Prim.Native.Nat.{_+_, _-_, _*_, _<_, min};
 ghost use lib.Dec.{ltb};
 ghost use lib.ListN.{length};
 ghost use Rattle.profile.specs.Bytes.{numberAt};
-ghost use Rattle.ask.specs.Figures.{figures, recordFigures, runFigures, toggleOf, toggleFigures, regionFigures, fieldFigures, profileFigures, figuresBy, figuresOf};
+ghost use Rattle.ask.specs.Figures.{fourFigures, figures, recordFigures, runFigures, toggleOf, toggleFigures, regionFigures, fieldFigures, profileFigures, figuresBy, figuresOf};
 
 pub struct Figures {
     pub first: u64,
     pub second: u64,
     pub third: u64,
+    pub fourth: u64,
 }
 
 // Two numbers that a sum, a product or a length may be.
@@ -37,6 +38,7 @@ fn two(first: u64, second: u64) -> Figures
         first,
         second,
         third: 0,
+        fourth: 0,
     }
 }
 
@@ -48,6 +50,19 @@ fn three(first: u16, second: u16, third: u16) -> Figures
         first: first as u64,
         second: second as u64,
         third: third as u64,
+        fourth: 0,
+    }
+}
+
+// Four numbers of a profile.
+fn four(first: u16, second: u16, third: u16, fourth: u16) -> Figures
+    ensures { λ r. ⌜ r ≡ fourFigures first second third fourth ⌝ }
+{
+    Figures {
+        first: first as u64,
+        second: second as u64,
+        third: third as u64,
+        fourth: fourth as u64,
     }
 }
 
@@ -178,7 +193,7 @@ fn gate_figures(tables: Tables, field: Field, i: usize) -> Figures
     ensures { λ r. ⌜ r ≡ fieldFigures tables field 15 i ⌝ }
 {
     let gate = gate_of(tables, i);
-    let length = line_length(tables, field, field.gate as u64);
+    let length = gate_length(tables, field);
     three(gate.toggle1, gate.toggle2, length)
 }
 
@@ -189,7 +204,7 @@ fn field_figures(tables: Tables, field: Field, number: u16, i: usize) -> Figures
     let subck = tables.subck;
     let shutter = shutter_of(tables, i);
     match number {
-        14 => three(field.gate, field.lines, field.second),
+        14 => four(field.gate, field.gate2, field.lines, field.second),
         15 => gate_figures(tables, field, i),
         16 => three(subck.toggle1, subck.toggle2, subck.suppressed),
         _ => two(shutter.on_line as u64, shutter.off_line as u64),

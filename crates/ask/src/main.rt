@@ -17,7 +17,7 @@ fn input_room() -> [u8; 16509]
     [0; 16509]
 }
 
-// Room for the longest answer, a script of 1,312 bytes.
+// Room for the longest answer, the longest script.
 fn text_room() -> [u8; 1400]
     ensures { λ r. ⌜ 1400 ≡ length r ⌝ }
 {

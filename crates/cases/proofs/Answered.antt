@@ -15,7 +15,7 @@ use Rattle.level.specs.Place.{levelAnswer, locateAnswer}
 use Rattle.holdlist.specs.Compile.{Compiles}
 use Rattle.holdlist.specs.Play.{playAnswer}
 use Rattle.holdlist.specs.declared.Compiled.{Compiled}
-use Rattle.cases.specs.Raw.{eightAt, numbersFrom, foursFrom, rawProfile}
+use Rattle.cases.specs.Raw.{eightAt, numbersFrom, foursFrom, rawLength, rawProfile}
 use Rattle.cases.specs.Kinds.{verdictText, readText, levelText, locateText, writeText, writeOf, compileText, compileOf, compileLines, lengthAt, playText, playLines, linesOf}
 
 pub write-told :
@@ -31,7 +31,7 @@ compile-told c = rw (c .answer, c .counts, c .words)
 -- lists that were filled from a payload
 module _ (b cs ws cs′ ws′ : List ℕ) (n : ℕ) where
   pub compile-filled :
-      (p : Profile) → p ≡ rawProfile b → cs′ ≡ foursFrom b 768 (length cs) → ws′ ≡ numbersFrom b (768 + 4 * n) (length ws) →
+      (p : Profile) → p ≡ rawProfile b → cs′ ≡ foursFrom b (rawLength + 8) (length cs) → ws′ ≡ numbersFrom b (rawLength + 8 + 4 * n) (length ws) →
       n ≡ length cs → compileOf p cs′ ws′ ≡ compileLines (length cs) (length ws) b
   unfolding compileLines
   compile-filled p ep ec ew en = rw (ep, ec, ew, en)
@@ -61,18 +61,18 @@ module _ (kind : ℕ) (b : List ℕ) where
   unfolding linesOf
   check-kind e = rw e
 
-  pub write-kind : kind ≡ 87 → writeOf (rawProfile b) (drop 760 b) ≡ linesOf kind b
+  pub write-kind : kind ≡ 87 → writeOf (rawProfile b) (drop rawLength b) ≡ linesOf kind b
   unfolding linesOf
   write-kind e = rw e
 
-  pub level-kind : kind ≡ 76 → levelText (levelAnswer (rawProfile b) (eightAt b 760) (eightAt b 768)) ≡ linesOf kind b
+  pub level-kind : kind ≡ 76 → levelText (levelAnswer (rawProfile b) (eightAt b rawLength) (eightAt b (rawLength + 8))) ≡ linesOf kind b
   unfolding linesOf
   level-kind e = rw e
 
-  pub locate-kind : kind ≡ 78 → locateText (locateAnswer (rawProfile b) (eightAt b 760)) ≡ linesOf kind b
+  pub locate-kind : kind ≡ 78 → locateText (locateAnswer (rawProfile b) (eightAt b rawLength)) ≡ linesOf kind b
   unfolding linesOf
   locate-kind e = rw e
 
-  pub compile-kind : kind ≡ 75 → compileLines (lengthAt b 760) (lengthAt b 764) b ≡ linesOf kind b
+  pub compile-kind : kind ≡ 75 → compileLines (lengthAt b rawLength) (lengthAt b (rawLength + 4)) b ≡ linesOf kind b
   unfolding linesOf
   compile-kind e = rw e

@@ -46,7 +46,7 @@ joinedLine ns = joined ns ++ (10 ∷ [])
 abbrev pub hexLine : List ℕ → List ℕ
 hexLine bs = chunks (length bs) (λ i. hex2 (getD bs i 0)) ++ (10 ∷ [])
 
--- ---- a profile as its 380 numbers
+-- ---- a profile as its 381 numbers
 
 abbrev pub flagNumber : Bool → ℕ
 flagNumber false = 0
@@ -70,7 +70,7 @@ abbrev pub regionNumbers : Region → List ℕ
 regionNumbers r = r .first ∷ r .sequence ∷ modeNumber (r .mode) ∷ []
 
 abbrev pub fieldNumbers : Field → List ℕ
-fieldNumbers f = flagNumber (f .present) ∷ f .lines ∷ f .last ∷ f .gate ∷ f .second ∷ f .count ∷ []
+fieldNumbers f = flagNumber (f .present) ∷ f .lines ∷ f .last ∷ f .gate ∷ f .gate2 ∷ f .second ∷ f .count ∷ []
 
 abbrev pub sequencesText : List Sequence → List ℕ
 sequencesText ss = chunks 10 (λ i. afters (sequenceNumbers (getD ss i emptySequence)))

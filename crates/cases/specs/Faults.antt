@@ -7,7 +7,7 @@ use lib.Dec.{ltb, leb, eqb}
 use lib.ListN.{length}
 use Rattle.profile.specs.Lists.{all, chunks}
 use Rattle.profile.specs.Bytes.{numberAt}
-use Rattle.cases.specs.Raw.{fourAt}
+use Rattle.cases.specs.Raw.{fourAt, rawLength}
 use Rattle.cases.specs.Answer.{caseLine}
 use Rattle.cases.specs.Kinds.{linesOf}
 
@@ -21,7 +21,7 @@ below b at step n limit = all (chunks n (belowTest b at step limit))
 -- the present flags of sequences, of gates, of SUBCK, shutters and field; then the modes
 unfoldable pub isRaw : List ℕ → Bool
 isRaw b =
-    (((leb 760 (length b) && below b 480 14 10 2) && below b 620 10 5 2) && below b 670 12 4 2) && below b 722 6 7 3
+    (((leb rawLength (length b) && below b 480 14 10 2) && below b 620 10 5 2) && below b 670 12 4 2) && below b 724 6 7 3
 
 -- c counts and w words from a place on are the rest of n bytes; "A list has at most 4,096 entries"
 unfoldable pub listsEnd : ℕ → ℕ → ℕ → ℕ → Bool
@@ -35,11 +35,11 @@ hasLists b at from = listsEnd (length b) from (fourAt b at) (fourAt b (at + 4))
 abbrev pub isRight : ℕ → List ℕ → Bool
 isRight kind b =
     cond (eqb kind 82) (leb (length b) 40000)
-    (cond (eqb kind 67) (isRaw b && eqb (length b) 760)
+    (cond (eqb kind 67) (isRaw b && eqb (length b) rawLength)
     (cond (eqb kind 87) (isRaw b)
-    (cond (eqb kind 76) (isRaw b && eqb (length b) 776)
-    (cond (eqb kind 78) (isRaw b && eqb (length b) 768)
-    (cond (eqb kind 75) (isRaw b && hasLists b 760 768)
+    (cond (eqb kind 76) (isRaw b && eqb (length b) (rawLength + 16))
+    (cond (eqb kind 78) (isRaw b && eqb (length b) (rawLength + 8))
+    (cond (eqb kind 75) (isRaw b && hasLists b rawLength (rawLength + 8))
     (cond (eqb kind 80) (hasLists b 0 24) false))))))
 
 -- all that is printed for case k; nothing where the payload is at fault

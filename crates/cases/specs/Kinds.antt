@@ -19,7 +19,7 @@ use Rattle.holdlist.specs.Compile.{roomOf, compileAnswer, compileCounts, compil
 use Rattle.holdlist.specs.Play.{playAnswer}
 use Rattle.holdlist.specs.declared.Compiled.{Compiled}
 use Rattle.holdlist.specs.declared.Played.{Played}
-use Rattle.cases.specs.Raw.{fourAt, eightAt, numbersFrom, foursFrom, rawProfile}
+use Rattle.cases.specs.Raw.{fourAt, eightAt, numbersFrom, foursFrom, rawLength, rawProfile}
 use Rattle.cases.specs.Answer.{after, headText, hexLine, joinedLine, profileLine}
 
 -- ---- lines of an answer
@@ -72,7 +72,7 @@ lengthAt b at = min 4096 (fourAt b at)
 
 -- c counts from a place on, and w words behind them
 unfoldable pub compileLines : ℕ → ℕ → List ℕ → List ℕ
-compileLines c w b = compileOf (rawProfile b) (foursFrom b 768 c) (numbersFrom b (768 + 4 * c) w)
+compileLines c w b = compileOf (rawProfile b) (foursFrom b (rawLength + 8) c) (numbersFrom b (rawLength + 8 + 4 * c) w)
 
 unfoldable pub playLines : ℕ → ℕ → List ℕ → List ℕ
 playLines c w b = playText (playAnswer (foursFrom b 24 c) (numbersFrom b (24 + 4 * c) w) (eightAt b 8) (eightAt b 16))
@@ -82,7 +82,7 @@ unfoldable pub linesOf : ℕ → List ℕ → List ℕ
 linesOf kind b =
     cond (eqb kind 82) (readText (readScript b))
     (cond (eqb kind 67) (verdictText (checkProfile (rawProfile b)))
-    (cond (eqb kind 87) (writeOf (rawProfile b) (drop 760 b))
-    (cond (eqb kind 76) (levelText (levelAnswer (rawProfile b) (eightAt b 760) (eightAt b 768)))
-    (cond (eqb kind 78) (locateText (locateAnswer (rawProfile b) (eightAt b 760)))
-    (cond (eqb kind 75) (compileLines (lengthAt b 760) (lengthAt b 764) b) (playLines (lengthAt b 0) (lengthAt b 4) b))))))
+    (cond (eqb kind 87) (writeOf (rawProfile b) (drop rawLength b))
+    (cond (eqb kind 76) (levelText (levelAnswer (rawProfile b) (eightAt b rawLength) (eightAt b (rawLength + 8))))
+    (cond (eqb kind 78) (locateText (locateAnswer (rawProfile b) (eightAt b rawLength)))
+    (cond (eqb kind 75) (compileLines (lengthAt b rawLength) (lengthAt b (rawLength + 4)) b) (playLines (lengthAt b 0) (lengthAt b 4) b))))))

@@ -1,4 +1,4 @@
--- The numbers of a payload and the raw profile of tests/cases/FORMAT.md: 380 numbers of two bytes, item after item.
+-- The numbers of a payload and the raw profile of tests/cases/FORMAT.md: 381 numbers of two bytes, item after item.
 -- Assumes nothing.
 use Prim.Native.Nat.{ℕ, _+_, _*_}
 use mathlib.Core.List.{List, [], _∷_}
@@ -83,8 +83,15 @@ rawRegion ns k = record { first = getD ns k 0; sequence = getD ns (k + 1) 0; mod
 
 -- ---- the raw profile
 
+-- how many numbers it has, and how many bytes
+abbrev pub rawCount : ℕ
+rawCount = 381
+
+abbrev pub rawLength : ℕ
+rawLength = 762
+
 abbrev pub rawNumbers : List ℕ → List ℕ
-rawNumbers b = numbersFrom b 0 380
+rawNumbers b = numbersFrom b 0 rawCount
 
 abbrev pub rawSequences : List ℕ → List Sequence
 rawSequences ns =
@@ -99,8 +106,8 @@ rawShutters ns = rawShutter ns 341 ∷ rawShutter ns 347 ∷ []
 
 abbrev pub rawRegions : List ℕ → List Region
 rawRegions ns =
-    rawRegion ns 359 ∷ rawRegion ns 362 ∷ rawRegion ns 365
-    ∷ rawRegion ns 368 ∷ rawRegion ns 371 ∷ rawRegion ns 374 ∷ rawRegion ns 377 ∷ []
+    rawRegion ns 360 ∷ rawRegion ns 363 ∷ rawRegion ns 366
+    ∷ rawRegion ns 369 ∷ rawRegion ns 372 ∷ rawRegion ns 375 ∷ rawRegion ns 378 ∷ []
 
 -- 240 half registers, 10 sequences, 5 gates, SUBCK, 2 shutters
 unfoldable pub rawTables : List ℕ → Tables
@@ -121,8 +128,9 @@ fieldWith ns regions =
       lines = getD ns 354 0;
       last = getD ns 355 0;
       gate = getD ns 356 0;
-      second = getD ns 357 0;
-      count = getD ns 358 0;
+      gate2 = getD ns 357 0;
+      second = getD ns 358 0;
+      count = getD ns 359 0;
       regions = regions;
     }
 

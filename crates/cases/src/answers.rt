@@ -1,4 +1,7 @@
 // The answer to one case: what an entry point gives for a payload, as text.
+use crate::raw::RAW;
+use crate::raw::RAW_AND_ONE;
+use crate::raw::RAW_AND_TWO;
 use crate::raw::eight_at;
 use crate::raw::fill_fours;
 use crate::raw::fill_numbers;
@@ -18,14 +21,14 @@ use profile::Profile;
 use profile::Verdict;
 ghost use mathlib.Core.Path.{_≡_};
 ghost use mathlib.Core.List.{_++_};
-ghost use Prim.Native.Nat.{_≤_, min};
+ghost use Prim.Native.Nat.{_+_, _≤_, min};
 ghost use lib.ListN.{length, drop};
 ghost use Rattle.profile.specs.Rules.{checkProfile};
 ghost use Rattle.profile.specs.Script.{readScript};
 ghost use Rattle.level.specs.Place.{levelAnswer, locateAnswer};
 ghost use Rattle.holdlist.specs.Play.{playAnswer};
 ghost use Rattle.holdlist.specs.Text.{Puts};
-ghost use Rattle.cases.specs.Raw.{rawProfile, eightAt};
+ghost use Rattle.cases.specs.Raw.{eightAt, rawLength, rawProfile};
 ghost use Rattle.cases.specs.Answer.{caseLine};
 ghost use Rattle.cases.specs.Kinds.{verdictText, verdictWith, verdictWithTwo, readText, levelText, locateText, writeOf, lengthAt, compileOf, compileLines, playText, playLines, linesOf};
 ghost use Rattle.cases.specs.Faults.{isRight, answerText};
@@ -88,12 +91,12 @@ fn put_check(out: &mut [u8], at: usize, payload: &[u8]) -> usize
 
 // Where a raw profile ends, or the payload where it is shorter.
 fn raw_end(payload: &[u8]) -> usize
-    ensures { λ r. ⌜ r ≡ min 760 (length (now (payload .entry))) ⌝ }
+    ensures { λ r. ⌜ r ≡ min rawLength (length (now (payload .entry))) ⌝ }
 {
-    if payload.len() < 760 {
+    if payload.len() < RAW {
         payload.len()
     } else {
-        760
+        RAW
     }
 }
 
@@ -108,7 +111,7 @@ fn put_written(out: &mut [u8], at: usize, profile: Profile, slice: &mut [u8]) ->
 
 // The slice that is lent is the payload's part after the raw profile.
 fn put_write(out: &mut [u8], at: usize, payload: &mut [u8]) -> usize
-    ensures { λ r. ⌜ Puts (writeOf (rawProfile (now (payload .entry))) (drop 760 (now (payload .entry)))) (now (out .entry)) at r (now (out .exit)) ⌝ }
+    ensures { λ r. ⌜ Puts (writeOf (rawProfile (now (payload .entry))) (drop rawLength (now (payload .entry)))) (now (out .entry)) at r (now (out .exit)) ⌝ }
 {
     let profile = raw_profile(payload);
     let from = raw_end(payload);
@@ -116,10 +119,10 @@ fn put_write(out: &mut [u8], at: usize, payload: &mut [u8]) -> usize
 }
 
 fn put_level(out: &mut [u8], at: usize, payload: &[u8]) -> usize
-    ensures { λ r. ⌜ Puts (levelText (levelAnswer (rawProfile (now (payload .entry))) (eightAt (now (payload .entry)) 760) (eightAt (now (payload .entry)) 768))) (now (out .entry)) at r (now (out .exit)) ⌝ }
+    ensures { λ r. ⌜ Puts (levelText (levelAnswer (rawProfile (now (payload .entry))) (eightAt (now (payload .entry)) rawLength) (eightAt (now (payload .entry)) (rawLength + 8)))) (now (out .entry)) at r (now (out .exit)) ⌝ }
 {
-    let line = eight_at(payload, 760);
-    let pixel = eight_at(payload, 768);
+    let line = eight_at(payload, RAW);
+    let pixel = eight_at(payload, RAW_AND_ONE);
     let profile = raw_profile(payload);
     let answer = level::level(profile, line, pixel);
     let verdict = answer.verdict;
@@ -127,9 +130,9 @@ fn put_level(out: &mut [u8], at: usize, payload: &[u8]) -> usize
 }
 
 fn put_locate(out: &mut [u8], at: usize, payload: &[u8]) -> usize
-    ensures { λ r. ⌜ Puts (locateText (locateAnswer (rawProfile (now (payload .entry))) (eightAt (now (payload .entry)) 760))) (now (out .entry)) at r (now (out .exit)) ⌝ }
+    ensures { λ r. ⌜ Puts (locateText (locateAnswer (rawProfile (now (payload .entry))) (eightAt (now (payload .entry)) rawLength))) (now (out .entry)) at r (now (out .exit)) ⌝ }
 {
-    let n = eight_at(payload, 760);
+    let n = eight_at(payload, RAW);
     let profile = raw_profile(payload);
     let located = level::locate(profile, n);
     let verdict = located.verdict;
@@ -167,18 +170,18 @@ fn compile_into(
     ensures { λ r. ⌜ Puts (compileLines (length (now (counts .entry))) (length (now (words .entry))) (now (payload .entry))) (now (out .entry)) at r (now (out .exit)) ⌝ }
 {
     let profile = raw_profile(payload);
-    fill_fours(counts, payload, 768);
-    fill_numbers(words, payload, 768 + 4 * counts.len());
+    fill_fours(counts, payload, RAW_AND_ONE);
+    fill_numbers(words, payload, RAW_AND_ONE + 4 * counts.len());
     put_compiled(out, at, profile, counts, words)
 }
 
 fn put_compile(out: &mut [u8], at: usize, payload: &[u8]) -> usize
-    ensures { λ r. ⌜ Puts (compileLines (lengthAt (now (payload .entry)) 760) (lengthAt (now (payload .entry)) 764) (now (payload .entry))) (now (out .entry)) at r (now (out .exit)) ⌝ }
+    ensures { λ r. ⌜ Puts (compileLines (lengthAt (now (payload .entry)) rawLength) (lengthAt (now (payload .entry)) (rawLength + 4)) (now (payload .entry))) (now (out .entry)) at r (now (out .exit)) ⌝ }
 {
     let mut counts = count_room();
     let mut words = word_room();
-    let c = length_at(payload, 760);
-    let w = length_at(payload, 764);
+    let c = length_at(payload, RAW);
+    let w = length_at(payload, RAW + 4);
     compile_into(out, at, payload, &mut counts[..c], &mut words[..w])
 }
 
@@ -231,11 +234,11 @@ fn is_right(kind: u8, payload: &[u8]) -> bool
 {
     match kind {
         b'R' => payload.len() <= 40000,
-        b'C' => is_raw(payload) & (payload.len() == 760),
+        b'C' => is_raw(payload) & (payload.len() == RAW),
         b'W' => is_raw(payload),
-        b'L' => is_raw(payload) & (payload.len() == 776),
-        b'N' => is_raw(payload) & (payload.len() == 768),
-        b'K' => is_raw(payload) & has_lists(payload, 760, 768),
+        b'L' => is_raw(payload) & (payload.len() == RAW_AND_TWO),
+        b'N' => is_raw(payload) & (payload.len() == RAW_AND_ONE),
+        b'K' => is_raw(payload) & has_lists(payload, RAW, RAW_AND_ONE),
         b'P' => has_lists(payload, 0, 24),
         _ => false,
     }

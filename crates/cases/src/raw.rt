@@ -1,4 +1,4 @@
-// Numbers of a payload, little-endian, and the raw profile: 380 numbers of two bytes. What lies past the payload is 0.
+// Numbers of a payload, little-endian, and the raw profile: 381 numbers of two bytes. What lies past the payload is 0.
 use profile::Field;
 use profile::Gate;
 use profile::Profile;
@@ -12,7 +12,7 @@ ghost use mathlib.Core.Path.{_≡_};
 ghost use Prim.Native.Nat.{_+_, _*_, _<_, min};
 ghost use lib.ListN.{length, getD};
 ghost use Rattle.profile.specs.Bytes.{numberAt};
-ghost use Rattle.cases.specs.Raw.{fourAt, eightAt, rawSequence, rawGate, rawSubck, rawShutter, rawRegion, numbersFrom, foursFrom, rawNumbers, rawSequences, rawGates, rawShutters, rawRegions, fieldWith, rawProfile};
+ghost use Rattle.cases.specs.Raw.{fourAt, eightAt, rawSequence, rawGate, rawSubck, rawShutter, rawRegion, numbersFrom, foursFrom, rawCount, rawNumbers, rawSequences, rawGates, rawShutters, rawRegions, fieldWith, rawProfile};
 ghost use Rattle.cases.specs.Faults.{below, isRaw, hasLists};
 
 // ---- numbers
@@ -87,7 +87,16 @@ pub(crate) fn fill_fours(list: &mut [u32], body: &[u8], at: usize)
 
 // ---- items, from number k of the raw profile on
 
-fn raw_sequence(n: [u16; 380], k: usize) -> Sequence
+// The numbers of a raw profile, and its bytes; the bytes with a number of eight bytes behind it, and with two.
+const RAW_COUNT: usize = 381;
+
+pub(crate) const RAW: usize = 762;
+
+pub(crate) const RAW_AND_ONE: usize = 770;
+
+pub(crate) const RAW_AND_TWO: usize = 778;
+
+fn raw_sequence(n: [u16; RAW_COUNT], k: usize) -> Sequence
     requires { ⌜ k < 370 ⌝ }
     ensures { λ r. ⌜ r ≡ rawSequence n k ⌝ }
 {
@@ -102,7 +111,7 @@ fn raw_sequence(n: [u16; 380], k: usize) -> Sequence
     }
 }
 
-fn raw_gate(n: [u16; 380], k: usize) -> Gate
+fn raw_gate(n: [u16; RAW_COUNT], k: usize) -> Gate
     requires { ⌜ k < 370 ⌝ }
     ensures { λ r. ⌜ r ≡ rawGate n k ⌝ }
 {
@@ -115,7 +124,7 @@ fn raw_gate(n: [u16; 380], k: usize) -> Gate
     }
 }
 
-fn raw_subck(n: [u16; 380], k: usize) -> Subck
+fn raw_subck(n: [u16; RAW_COUNT], k: usize) -> Subck
     requires { ⌜ k < 370 ⌝ }
     ensures { λ r. ⌜ r ≡ rawSubck n k ⌝ }
 {
@@ -129,7 +138,7 @@ fn raw_subck(n: [u16; 380], k: usize) -> Subck
     }
 }
 
-fn raw_shutter(n: [u16; 380], k: usize) -> Shutter
+fn raw_shutter(n: [u16; RAW_COUNT], k: usize) -> Shutter
     requires { ⌜ k < 370 ⌝ }
     ensures { λ r. ⌜ r ≡ rawShutter n k ⌝ }
 {
@@ -143,8 +152,8 @@ fn raw_shutter(n: [u16; 380], k: usize) -> Shutter
     }
 }
 
-fn raw_region(n: [u16; 380], k: usize) -> Region
-    requires { ⌜ k < 378 ⌝ }
+fn raw_region(n: [u16; RAW_COUNT], k: usize) -> Region
+    requires { ⌜ k < 379 ⌝ }
     ensures { λ r. ⌜ r ≡ rawRegion n k ⌝ }
 {
     Region {
@@ -170,13 +179,13 @@ fn raw_registers(body: &[u8]) -> [u16; 240]
     registers
 }
 
-fn number_room() -> [u16; 380]
-    ensures { λ r. ⌜ 380 ≡ length r ⌝ }
+fn number_room() -> [u16; RAW_COUNT]
+    ensures { λ r. ⌜ rawCount ≡ length r ⌝ }
 {
-    [0; 380]
+    [0; RAW_COUNT]
 }
 
-fn raw_numbers(body: &[u8]) -> [u16; 380]
+fn raw_numbers(body: &[u8]) -> [u16; RAW_COUNT]
     ensures { λ r. ⌜ r ≡ rawNumbers (now (body .entry)) ⌝ }
 {
     let mut numbers = number_room();
@@ -184,7 +193,7 @@ fn raw_numbers(body: &[u8]) -> [u16; 380]
     numbers
 }
 
-fn raw_sequences(n: [u16; 380]) -> [Sequence; 10]
+fn raw_sequences(n: [u16; RAW_COUNT]) -> [Sequence; 10]
     ensures { λ r. ⌜ r ≡ rawSequences n ⌝ }
 {
     [
@@ -201,7 +210,7 @@ fn raw_sequences(n: [u16; 380]) -> [Sequence; 10]
     ]
 }
 
-fn raw_gates(n: [u16; 380]) -> [Gate; 5]
+fn raw_gates(n: [u16; RAW_COUNT]) -> [Gate; 5]
     ensures { λ r. ⌜ r ≡ rawGates n ⌝ }
 {
     [
@@ -213,27 +222,27 @@ fn raw_gates(n: [u16; 380]) -> [Gate; 5]
     ]
 }
 
-fn raw_shutters(n: [u16; 380]) -> [Shutter; 2]
+fn raw_shutters(n: [u16; RAW_COUNT]) -> [Shutter; 2]
     ensures { λ r. ⌜ r ≡ rawShutters n ⌝ }
 {
     [raw_shutter(n, 341), raw_shutter(n, 347)]
 }
 
-fn raw_regions(n: [u16; 380]) -> [Region; 7]
+fn raw_regions(n: [u16; RAW_COUNT]) -> [Region; 7]
     ensures { λ r. ⌜ r ≡ rawRegions n ⌝ }
 {
     [
-        raw_region(n, 359),
-        raw_region(n, 362),
-        raw_region(n, 365),
-        raw_region(n, 368),
-        raw_region(n, 371),
-        raw_region(n, 374),
-        raw_region(n, 377),
+        raw_region(n, 360),
+        raw_region(n, 363),
+        raw_region(n, 366),
+        raw_region(n, 369),
+        raw_region(n, 372),
+        raw_region(n, 375),
+        raw_region(n, 378),
     ]
 }
 
-fn raw_field(n: [u16; 380], regions: [Region; 7]) -> Field
+fn raw_field(n: [u16; RAW_COUNT], regions: [Region; 7]) -> Field
     ensures { λ r. ⌜ r ≡ fieldWith n regions ⌝ }
 {
     Field {
@@ -241,8 +250,9 @@ fn raw_field(n: [u16; 380], regions: [Region; 7]) -> Field
         lines: n[354],
         last: n[355],
         gate: n[356],
-        second: n[357],
-        count: n[358],
+        gate2: n[357],
+        second: n[358],
+        count: n[359],
         regions: regions,
     }
 }
@@ -295,11 +305,11 @@ fn all_below(body: &[u8], at: usize, step: usize, n: usize, limit: u16) -> bool
 pub(crate) fn is_raw(body: &[u8]) -> bool
     ensures { λ r. ⌜ r ≡ isRaw (now (body .entry)) ⌝ }
 {
-    (760 <= body.len())
+    (RAW <= body.len())
         & all_below(body, 480, 14, 10, 2)
         & all_below(body, 620, 10, 5, 2)
         & all_below(body, 670, 12, 4, 2)
-        & all_below(body, 722, 6, 7, 3)
+        & all_below(body, 724, 6, 7, 3)
 }
 
 // Whether a payload has the lengths of two lists at one place, and ends with the lists, from another on.

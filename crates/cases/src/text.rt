@@ -82,7 +82,7 @@ pub(crate) fn put_hex_line(out: &mut [u8], at: usize, bytes: &[u8]) -> usize
     put_byte(out, to, 10)
 }
 
-// ---- a profile as its 380 numbers
+// ---- a profile as its 381 numbers
 
 fn put_sequence(out: &mut [u8], at: usize, s: Sequence) -> usize
     ensures { λ r. ⌜ Puts (afters (sequenceNumbers s)) (now (out .entry)) at r (now (out .exit)) ⌝ }
@@ -202,7 +202,15 @@ fn put_regions(out: &mut [u8], at: usize, regions: [Region; 7]) -> usize
 fn put_field(out: &mut [u8], at: usize, f: Field) -> usize
     ensures { λ r. ⌜ Puts (fieldText f) (now (out .entry)) at r (now (out .exit)) ⌝ }
 {
-    let numbers = [f.present as u16, f.lines, f.last, f.gate, f.second, f.count];
+    let numbers = [
+        f.present as u16,
+        f.lines,
+        f.last,
+        f.gate,
+        f.gate2,
+        f.second,
+        f.count,
+    ];
     let a = put_numbers(out, at, false, &numbers);
     let regions = f.regions;
     put_regions(out, a, regions)

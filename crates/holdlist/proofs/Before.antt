@@ -7,19 +7,24 @@ use mathlib.Core.Bool.{cond}
 use mathlib.Core.List.{List}
 use Rattle.profile.specs.Values.{Sized, accepts}
 use Rattle.profile.specs.declared.Profile.{Profile}
+use Rattle.profile.specs.declared.Verdict.{Verdict}
 use Rattle.profile.proofs.Before.{checkBefore, check-before}
 use Rattle.level.proofs.Before.{wordsBefore, words-before}
 use Rattle.holdlist.specs.Compile.{holdAnswer, holdCounts, holdWords, compileAnswer, compileCounts, compileWords}
 use Rattle.holdlist.specs.declared.Compiled.{Compiled}
 
-pub compileBefore : Profile → ℕ → Compiled
-compileBefore p room =
-    cond (accepts (checkBefore p)) (holdAnswer (wordsBefore (p .tables) (p .field)) room)
-    (record { verdict = checkBefore p; steps = 0; pixels = 0 })
+-- what is answered by the check's verdict and the words, and what is left in a list, the counts or the words, by how the words held leave it
+abbrev pub compileBy : Verdict → List ℕ → ℕ → Compiled
+compileBy v words room = cond (accepts v) (holdAnswer words room) (record { verdict = v; steps = 0; pixels = 0 })
 
--- what is left in a list, the counts or the words, by how the words held leave it
+abbrev pub leftBy : (List ℕ → ℕ → List ℕ → List ℕ) → Verdict → List ℕ → ℕ → List ℕ → List ℕ
+leftBy hold v words room list = cond (accepts v) (hold words room list) list
+
+pub compileBefore : Profile → ℕ → Compiled
+compileBefore p room = compileBy (checkBefore p) (wordsBefore (p .tables) (p .field)) room
+
 pub leftBefore : (List ℕ → ℕ → List ℕ → List ℕ) → Profile → ℕ → List ℕ → List ℕ
-leftBefore hold p room list = cond (accepts (checkBefore p)) (hold (wordsBefore (p .tables) (p .field)) room list) list
+leftBefore hold p room list = leftBy hold (checkBefore p) (wordsBefore (p .tables) (p .field)) room list
 
 module _ (p : Profile) (room : ℕ) (z : Sized p) where
   pub compile-before : compileAnswer p room ≡ compileBefore p room

@@ -114,11 +114,17 @@ sweep times = pattern 0x004001 0x003001 ++ unused ++ sequence 2 times times 0 ++
 abbrev multiplier : ℕ → List ℕ
 multiplier times = pattern 0x004000 0x005002 ++ unused ++ sequence 1 times times 0 ++ field 3 2
 
--- A with every item that a profile has: ten sequences, seven regions of two lines, five gates, SUBCK, both shutters
+-- A with two gate lines, each a number of two bytes: VSG1 is on with toggles 2 and 5, and SUBCK acts on the line after the gate line, on one line
+abbrev two-lines : ℕ → ℕ → List ℕ
+two-lines first second =
+    pattern 0x004001 0x003001 ++ unused ++ sequence 2 1 2 0 ++ twoBytes (18 ∷ 3 ∷ 3 ∷ 10 ∷ first ∷ second ∷ 65535 ∷ 1 ∷ 0 ∷ 0 ∷ 0 ∷ [])
+    ++ twoBytes (10 ∷ 4 ∷ 0 ∷ 1 ∷ 1 ∷ 2 ∷ 5 ∷ []) ++ twoBytes (10 ∷ 5 ∷ 1 ∷ 2 ∷ 5 ∷ 1 ∷ 1 ∷ [])
+
+-- A with every item that a profile has: ten sequences, seven regions of two lines and two gate lines, five gates, SUBCK, both shutters
 abbrev full : List ℕ
 full =
     pattern 0x004001 0x003001 ++ unused ++ chunks 10 (λ k. sequenceAt k 2 1 2 0)
-    ++ twoBytes (52 ∷ 3 ∷ 14 ∷ 10 ∷ 0 ∷ 65535 ∷ 7 ∷ []) ++ chunks 7 (λ i. twoBytes (2 * i ∷ 0 ∷ 0 ∷ []))
+    ++ twoBytes (54 ∷ 3 ∷ 14 ∷ 10 ∷ 0 ∷ 13 ∷ 65535 ∷ 7 ∷ []) ++ chunks 7 (λ i. twoBytes (2 * i ∷ 0 ∷ 0 ∷ []))
     ++ chunks 5 (λ k. twoBytes (10 ∷ 4 ∷ k ∷ 1 ∷ 1 ∷ 2 ∷ 5 ∷ []))
     ++ twoBytes (10 ∷ 5 ∷ 1 ∷ 2 ∷ 5 ∷ 1 ∷ 1 ∷ [])
     ++ chunks 2 (λ k. twoBytes (12 ∷ 6 ∷ k ∷ 1 ∷ 0 ∷ 0 ∷ 1 ∷ 0 ∷ []))
@@ -162,6 +168,10 @@ w1 =
     0x31 ∷ 0x20 ∷ 0x30 ∷ 0x46 ∷ 0x43 ∷ 0x31 ∷ 0x0A ∷
     []
 
+-- low at pixels 2 to 4 of a line of 10
+abbrev transfer : List ℕ
+transfer = replicate 2 1 ++ replicate 3 0 ++ replicate 5 1
+
 pub table : List Case
 table =
     -- W1
@@ -193,15 +203,22 @@ table =
     ∷ case a (compile (replicate 6 9) (replicate 8 9)) ((18 ∷ 7 ∷ 0 ∷ 0 ∷ 0 ∷ 0 ∷ []) ∷ replicate 6 9 ∷ replicate 8 9 ∷ [])
     -- W12
     ∷ case a (level 1 10) ((19 ∷ 0 ∷ 0 ∷ 0 ∷ 0 ∷ []) ∷ [])
-    -- "at most 1,312 bytes, at least 998": both are reached
+    -- "its longest script becomes 1,314 bytes", and "at least 998": both are reached
     ∷ case a (write 998) ((0 ∷ 0 ∷ 0 ∷ 0 ∷ 998 ∷ []) ∷ [])
-    ∷ case full (write 1312) ((0 ∷ 0 ∷ 0 ∷ 0 ∷ 1312 ∷ []) ∷ [])
-    ∷ case full (write 1311) ((18 ∷ 1312 ∷ 0 ∷ 0 ∷ 0 ∷ []) ∷ [])
+    ∷ case full (write 1314) ((0 ∷ 0 ∷ 0 ∷ 0 ∷ 1314 ∷ []) ∷ [])
+    ∷ case full (write 1313) ((18 ∷ 1314 ∷ 0 ∷ 0 ∷ 0 ∷ []) ∷ [])
+    -- gate lines 1 and 0 of 3: VSG1 is low at pixels 2 to 4 of both, and SUBCK on line 2, after the one that is named first
+    ∷ case (two-lines 1 0) (output 6) ((transfer ++ transfer ++ replicate 10 1) ∷ [])
+    ∷ case (two-lines 1 0) (output 11) ((replicate 20 1 ++ transfer) ∷ [])
+    -- equal ones, one outside, and none
+    ∷ case (two-lines 1 1) read ((14 ∷ 0 ∷ 0 ∷ 0 ∷ []) ∷ [])
+    ∷ case (two-lines 1 3) read ((14 ∷ 0 ∷ 0 ∷ 0 ∷ []) ∷ [])
+    ∷ case (two-lines 1 65535) (output 6) ((replicate 10 1 ++ transfer ++ replicate 10 1) ∷ [])
     ∷ []
 
 pub cases : map (λ (c : Case). ask (c .script) (c .question)) table ≡ map (λ (c : Case). c .answer) table
 unfolding ask table flatMap
-    Lists.all Lists.chunks Lists.sum Lists.lastStart
+    Lists.all Lists.distinct Lists.chunks Lists.sum Lists.lastStart
     Values.emptyField Values.emptyTables
     Layout.halfPattern Layout.halfPart
     Patterns.withPart Patterns.patternUpTo Patterns.patternOf Patterns.toggleFault Patterns.highestUsed
@@ -209,8 +226,8 @@ unfolding ask table flatMap
     Geometry.hasPixel
     Ranges.sequenceIn Ranges.regionIn Ranges.headIn Ranges.gateIn Ranges.subckIn Ranges.shutterIn Ranges.inRange
     Rules.firstBroken Rules.startsRight Rules.rowRight Rules.pairsRight Rules.maskRight Rules.countsRight Rules.endsRight Rules.secondRight
-    Rules.gateRight Rules.subckRight Rules.shutterRight Rules.entriesAt Rules.lineEntries Rules.rulesOf Rules.entriesOf Rules.judge Rules.checkProfile
-    Script.registerFits Script.sequenceFits Script.fieldFrom Script.fieldFits Script.gateFits Script.subckFits Script.shutterFits Script.allowed
+    Rules.gateRight Rules.subckRight Rules.shutterRight Rules.entriesAt Rules.linesRight Rules.lineEntries Rules.rulesOf Rules.entriesOf Rules.judge Rules.checkProfile
+    Script.registerFits Script.sequenceFits Script.hasForm Script.fieldWith Script.fitsWith Script.gateFits Script.subckFits Script.shutterFits Script.allowed
     Script.fits Script.withRecord Script.step Script.records Script.readScript
     Writing.writeScript Writing.writeAnswer
     Line.lineWith Line.noLine Line.lineOf

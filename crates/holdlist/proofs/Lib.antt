@@ -13,3 +13,4 @@ pub mod Readback
 pub mod Prints
 pub mod Named
 pub mod Before
+pub mod OneLine

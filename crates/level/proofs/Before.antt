@@ -18,8 +18,9 @@ use Rattle.profile.specs.declared.Sequence.{Sequence}
 use Rattle.profile.specs.declared.Tables.{Tables}
 use Rattle.profile.specs.declared.Field.{Field}
 use Rattle.profile.specs.declared.Profile.{Profile}
+use Rattle.profile.specs.declared.Verdict.{Verdict}
 use Rattle.profile.proofs.Before.{patternBefore, pattern-before, checkBefore, check-before}
-use Rattle.level.specs.Line.{onGateLine, gatesHere, subckHere, shutterHere, lineWith, noLine, lineOf}
+use Rattle.level.specs.Line.{among, gatesHere, subckHere, shutterHere, lineWith, noLine, lineOf}
 use Rattle.level.specs.Word.{wordOf}
 use Rattle.level.specs.Fieldwords.{lineWords, fieldWords}
 use Rattle.level.specs.Place.{noLevel, levelAnswer, noPlace, placeAnswer, locateAnswer}
@@ -27,9 +28,10 @@ use Rattle.level.specs.declared.Line.{Line}
 use Rattle.level.specs.declared.LevelAnswer.{LevelAnswer}
 use Rattle.level.specs.declared.Located.{Located}
 
--- the line of region r, whose number is i, with sequence s and that sequence's pattern a, and a second pattern that is read by its number
-abbrev lineWithBy : (ℕ → Pattern) → Tables → Field → ℕ → ℕ → Region → Sequence → Pattern → Line
-lineWithBy pattern t f line i r s a =
+-- the line of region r, whose number is i, with sequence s and that sequence's pattern a, a second pattern that is read by its number, and
+-- the given gate lines
+abbrev lineWithBy : (ℕ → Pattern) → List ℕ → Tables → Field → ℕ → ℕ → Region → Sequence → Pattern → Line
+lineWithBy pattern gates t f line i r s a =
     record {
       length = lengthIn t f i line;
       mode = r .mode;
@@ -39,49 +41,57 @@ lineWithBy pattern t f line i r s a =
       repetitions = repetitions s line;
       mask1 = record { on = pairOn (s .mask) 1; freeze = a .freeze1; resume = a .resume1 };
       mask2 = record { on = pairOn (s .mask) 2; freeze = a .freeze2; resume = a .resume2 };
-      «second_acts» = hasSecond f && onGateLine f line;
+      «second_acts» = hasSecond f && among line gates;
       second = pattern (f .second);
-      gates = gatesHere (t .gates) (onGateLine f line);
-      subck = subckHere (t .subck) (getD (gateLines f) 0 0) line;
+      gates = gatesHere (t .gates) (among line gates);
+      subck = subckHere (t .subck) (getD gates 0 0) line;
       mshut = shutterHere (getD (t .shutters) 0 emptyShutter) line (lengthIn t f i line);
       strobe = shutterHere (getD (t .shutters) 1 emptyShutter) line (lengthIn t f i line);
     }
 
-abbrev lineBy : (ℕ → Pattern) → Tables → Field → ℕ → ℕ → Line
-lineBy pattern t f line i =
-    lineWithBy pattern t f line i (regionAt f i) (sequenceOf t (regionAt f i .sequence)) (pattern (sequenceOf t (regionAt f i .sequence) .pattern))
+abbrev lineBy : (ℕ → Pattern) → List ℕ → Tables → Field → ℕ → ℕ → Line
+lineBy pattern gates t f line i =
+    lineWithBy pattern gates t f line i (regionAt f i) (sequenceOf t (regionAt f i .sequence)) (pattern (sequenceOf t (regionAt f i .sequence) .pattern))
 
-lineWhere : (ℕ → Pattern) → Tables → Field → ℕ → Line
-lineWhere pattern t f line = cond (ltb line (f .lines)) (lineBy pattern t f line (regionOf f line)) noLine
+unfoldable pub lineWhere : (ℕ → Pattern) → List ℕ → Tables → Field → ℕ → Line
+lineWhere pattern gates t f line = cond (ltb line (f .lines)) (lineBy pattern gates t f line (regionOf f line)) noLine
+
+-- the words of a field by its lines, and what is answered of a level and a place by the check's verdict and the line
+abbrev pub wordsBy : (ℕ → Line) → Tables → Field → List ℕ
+wordsBy lines t f = chunks (f .lines) (λ line. lineWords (lines line) (lineLength t f line))
+
+abbrev pub levelBy : Verdict → (ℕ → Line) → Tables → Field → ℕ → ℕ → LevelAnswer
+levelBy v lines t f line pixel =
+    cond (accepts v)
+    (cond (hasPixel t f line pixel) (record { verdict = accepted; word = wordOf (lines line) pixel }) (noLevel (refused 19 0)))
+    (noLevel v)
+
+abbrev pub locateBy : Verdict → Profile → ℕ → Located
+locateBy v p n = cond (accepts v) (placeAnswer (p .tables) (p .field) n) (noPlace v)
 
 pub lineBefore : Tables → Field → ℕ → Line
-lineBefore t f line = lineWhere (patternBefore (t .registers)) t f line
+lineBefore t f line = lineWhere (patternBefore (t .registers)) (gateLines f) t f line
 
 pub wordsBefore : Tables → Field → List ℕ
-wordsBefore t f = chunks (f .lines) (λ line. lineWords (lineBefore t f line) (lineLength t f line))
+wordsBefore t f = wordsBy (lineBefore t f) t f
 
 pub levelBefore : Profile → ℕ → ℕ → LevelAnswer
-levelBefore p line pixel =
-    cond (accepts (checkBefore p))
-    (cond (hasPixel (p .tables) (p .field) line pixel)
-    (record { verdict = accepted; word = wordOf (lineBefore (p .tables) (p .field) line) pixel })
-    (noLevel (refused 19 0)))
-    (noLevel (checkBefore p))
+levelBefore p line pixel = levelBy (checkBefore p) (lineBefore (p .tables) (p .field)) (p .tables) (p .field) line pixel
 
-line-where : (t : Tables) (f : Field) (line : ℕ) → lineOf t f line ≡ lineWhere (patternOf (t .registers)) t f line
+pub line-where : (t : Tables) (f : Field) (line : ℕ) → lineOf t f line ≡ lineWhere (patternOf (t .registers)) (gateLines f) t f line
 unfolding lineOf lineWith lineWhere
 line-where t f line = refl
 
 pub line-before : (t : Tables) (f : Field) (line : ℕ) → length (t .registers) ≡ 240 → lineOf t f line ≡ lineBefore t f line
 unfolding lineBefore
 line-before t f line e =
-    line-where t f line ∙ ap (λ (pattern : ℕ → Pattern). lineWhere pattern t f line) (λ i k. pattern-before (t .registers) e k i)
+    line-where t f line ∙ ap (λ (pattern : ℕ → Pattern). lineWhere pattern (gateLines f) t f line) (λ i k. pattern-before (t .registers) e k i)
 
 -- every word of a field
 pub words-before : (t : Tables) (f : Field) → length (t .registers) ≡ 240 → fieldWords t f ≡ wordsBefore t f
 unfolding fieldWords wordsBefore
 words-before t f e =
-    ap (λ (l : ℕ → Line). chunks (f .lines) (λ line. lineWords (l line) (lineLength t f line))) (λ i line. line-before t f line e i)
+    ap (λ (lines : ℕ → Line). wordsBy lines t f) (λ i line. line-before t f line e i)
 
 -- and every level that is asked for
 pub level-before : (p : Profile) (line pixel : ℕ) → Sized p → levelAnswer p line pixel ≡ levelBefore p line pixel
@@ -89,7 +99,7 @@ unfolding levelAnswer levelBefore
 level-before p line pixel z = rw (check-before p z, line-before (p .tables) (p .field) line (z .registers))
 
 pub locateBefore : Profile → ℕ → Located
-locateBefore p n = cond (accepts (checkBefore p)) (placeAnswer (p .tables) (p .field) n) (noPlace (checkBefore p))
+locateBefore p n = locateBy (checkBefore p) p n
 
 pub locate-before : (p : Profile) (n : ℕ) → Sized p → locateAnswer p n ≡ locateBefore p n
 unfolding locateAnswer locateBefore

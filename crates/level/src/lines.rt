@@ -10,6 +10,7 @@ use profile::Shutter;
 use profile::Subck;
 use profile::Tables;
 use profile::empty_pattern;
+use profile::has_second_line;
 use profile::length_in;
 use profile::pattern_of;
 use profile::region_at;
@@ -48,7 +49,7 @@ fn mask_of(mask: u16, bit: u16, freeze: u16, resume: u16) -> Mask
 fn on_gate_line(field: Field, line: u16) -> bool
     ensures { λ r. ⌜ r ≡ onGateLine field line ⌝ }
 {
-    line == field.gate
+    (line == field.gate) | (has_second_line(field) & (line == field.gate2))
 }
 
 // Whether there is a second pattern, and it acts here.

@@ -12,7 +12,7 @@ use lib.ListN.{length, getD}
 use lib.Dec.{ltb, leb, eqb, lit≤}
 use borrow.Author.Tests.{ltb-true, ltb-false, eqb-true, eqb-false, eq-eqb, ne-eqb}
 use Rattle.profile.specs.Lists.{Each, all, chunks}
-use Rattle.profile.specs.Values.{accepted, refused}
+use Rattle.profile.specs.Values.{none, accepted, refused}
 use Rattle.profile.specs.Patterns.{rowOf, used, inOrder}
 use Rattle.profile.specs.Geometry.{regionCount, regionAt, firstLine, Ordered, gateOf, shutterOf, sequenceAt, patternAt, lineLength, regionSize, gateLines}
 use Rattle.profile.specs.Rules.{
@@ -23,6 +23,7 @@ use Rattle.profile.specs.Rules.{
   hasSecond,
   secondOf,
   secondRight,
+  linesRight,
   gateRight,
   toggleRule,
   rowEntries,
@@ -37,7 +38,7 @@ use Rattle.profile.specs.Rules.{
   checkProfile,
 }
 use Rattle.profile.specs.Ranges.{inRange}
-use Rattle.profile.specs.Obeys.{Used, InOrder, Seconds, Starts, Pulses, FieldRule, Rule, turn, rank, Ahead, Earlier, FirstBroken}
+use Rattle.profile.specs.Obeys.{Used, InOrder, Seconds, Differ, Starts, Pulses, FieldRule, Rule, turn, rank, Ahead, Earlier, FirstBroken}
 use Rattle.profile.specs.declared.Mode.{Mode}
 use Rattle.profile.specs.declared.Sequence.{Sequence}
 use Rattle.profile.specs.declared.Pattern.{Pattern}
@@ -50,7 +51,7 @@ use Rattle.profile.proofs.Checked.{check-range, judge-entries, numbered
 use Rattle.profile.proofs.Entries.{Numbered, Hold, hold-accepted}
 use Rattle.profile.proofs.Lines.{regions-some}
 use Rattle.profile.proofs.Carried.{says-range}
-use Rattle.profile.proofs.Reflects.{Says, says-lt, says-le, says-true, says-ne, says-and, says-where, says-map, says-used, says-toggle, says-mask, says-counts, says-ends, says-second, says-gate, says-subck, says-shutter}
+use Rattle.profile.proofs.Reflects.{Says, says-lt, says-le, says-true, says-ne, says-and, says-where, says-map, says-differ, says-used, says-toggle, says-mask, says-counts, says-ends, says-second, says-gate, says-subck, says-shutter}
 
 -- ---- the first entry that does not hold
 
@@ -191,13 +192,14 @@ says-starts f (suc i) =
 -- ---- the rules of a field
 
 module _ (t : Tables) (f : Field) where
-  says-lines : Says (all (map (λ (g : ℕ). ltb g (f .lines)) (gateLines f))) (Each (λ g. g < f .lines) (gateLines f))
-  says-lines = says-map _ _ (λ g. says-lt g (f .lines)) (gateLines f)
+  says-lines : Says (linesRight f) (Each (λ g. g < f .lines) (gateLines f) × Differ (gateLines f))
+  unfolding linesRight
+  says-lines = says-and (says-map _ _ (λ g. says-lt g (f .lines)) (gateLines f)) (says-differ (gateLines f))
 
   says-seconds :
       Says (not (hasSecond f) || all (map (secondRight t f (secondOf t f)) (gateLines f)))
-      ((f .second ≡ 65535 → ⊥) → Each (Seconds t f (secondOf t f)) (gateLines f))
-  says-seconds = says-where (says-ne (f .second) 65535) (says-map _ _ (says-second t f (secondOf t f)) (gateLines f))
+      ((f .second ≡ none → ⊥) → Each (Seconds t f (secondOf t f)) (gateLines f))
+  says-seconds = says-where (says-ne (f .second) none) (says-map _ _ (says-second t f (secondOf t f)) (gateLines f))
 
   says-pulses : (k : ℕ)
       → Says (all (map (λ (g : ℕ). gateRight (gateOf t k) (lineLength t f g)) (gateLines f)))
@@ -245,7 +247,7 @@ module _ (t : Tables) (f : Field) where
 
   passes-lines : Each Passes (lineEntries t f)
   unfolding lineEntries
-  passes-lines = ((λ r. says-lines .1 (r .gate-line refl .0)), ((λ r. says-seconds .1 (r .gate-line refl .1)), tt))
+  passes-lines = ((λ r. let w = r .gate-line refl in says-lines .1 (w .inside, w .differ)), ((λ r. says-seconds .1 (r .gate-line refl .second)), tt))
 
   passes-rules : Each Passes (rulesOf t f)
   passes-rules =
@@ -277,7 +279,9 @@ module _ (t : Tables) (f : Field) where
         mask = λ i e h. says-mask (mode i) (sequence i .mask) (pattern i) .0 (region i h .runs .0 (sym e));
         repetitions = λ i e h. says-counts (mode i) (sequence i) (pattern i) .0 (region i h .runs .1 .0 (sym e));
         run-ends = λ i e h. says-ends (mode i) (sequence i) (pattern i) (regionSize t f i) .0 (region i h .runs .1 .1 .0 (sym e));
-        gate-line = λ e. (says-lines .0 (all .lines .0 (sym e)), says-seconds .0 (all .lines .1 .0 (sym e)));
+        gate-line = λ e.
+            let lines = says-lines .0 (all .lines .0 (sym e)) in
+            record { inside = lines .0; differ = lines .1; second = says-seconds .0 (all .lines .1 .0 (sym e)) };
         gate-pulse = λ k e h. says-pulses k .0 (all .gates k h .0 (sym e));
         subck = λ e. says-subck (t .subck) .0 (all .subck .0 (sym e));
         shutter = λ k e h. says-shutter t f (shutterOf t k) .0 (all .shutters k h .0 (sym e));

@@ -6,14 +6,15 @@ use Prim.Native.Nat.{ℕ, zero, suc, _+_, _-_, _*_, _/_, _%_, _≤_, _<_}
 use native.Mathlib.Nat.{add-zero, add-suc}
 use native.Mathlib.Omega.{arith}
 use mathlib.Core.Path.{_≡_, refl, sym, ap, _∙_}
+use mathlib.Core.Logic.{⊎-elim}
 use mathlib.Core.Bool.{Bool, true, cond, not, _&&_, _||_}
 use mathlib.Core.List.{List, [], _∷_, _++_, map, flatMap}
 use borrow.Author.Tests.{eq-eqb, ne-eqb, eqb-true, eqb-false, ltb-true, ltb-false, le-leb, lt-leb}
 use lib.Dec.{ltb, leb, eqb}
 use lib.ListN.{length, getD, List·getD-eq-default}
-use Rattle.profile.specs.Lists.{all, chunks, over}
+use Rattle.profile.specs.Lists.{all, chunks}
 use Rattle.profile.specs.Bytes.{Bytes, numberAt, dataAt}
-use Rattle.profile.specs.Values.{Sized, emptyProfile, accepted, refused, accepts, readAnswer}
+use Rattle.profile.specs.Values.{Sized, refused}
 use Rattle.profile.specs.Layout.{parts, halfPattern, halfPart, partLimit, halfLimit}
 use Rattle.profile.specs.Patterns.{emptyPattern, withPart, patternUpTo, patternOf, rowOf, isPlain, not4095}
 use Rattle.profile.specs.Geometry.{regionCount, regionAt, regionOf, sequenceAt, lineLength, regionSize, gateLines}
@@ -25,6 +26,7 @@ use Rattle.profile.specs.Rules.{
   rowRight,
   firstEnds,
   secondRight,
+  linesRight,
   hasSecond,
   orderEntries,
   entriesAt,
@@ -39,7 +41,6 @@ use Rattle.profile.specs.Rules.{
   checkProfile,
 }
 use Rattle.profile.specs.Script.{
-  mostBytes,
   registerFits,
   sequenceFits,
   fieldFits,
@@ -47,17 +48,12 @@ use Rattle.profile.specs.Script.{
   subckFits,
   shutterFits,
   byKind,
-  known,
   allowed,
   fits,
   withRecord,
   Stepped,
-  stop,
-  next,
   bodyOf,
   step,
-  afterFirst,
-  records,
   readScript,
 }
 use Rattle.profile.specs.Writing.{writeScript, writeAnswer, writeLeaves}
@@ -70,8 +66,9 @@ use Rattle.profile.specs.declared.Verdict.{Verdict}
 use Rattle.profile.specs.declared.ReadAnswer.{ReadAnswer}
 use Rattle.profile.specs.declared.Written.{Written}
 use Rattle.profile.proofs.Laws.{by-cases, image-at}
-use Rattle.profile.proofs.ByteRange.{bytes-part, bytes-tail}
-use Rattle.profile.proofs.Reading.{empty-sized, records-sized}
+use Rattle.profile.proofs.ByteRange.{bytes-part}
+use Rattle.profile.proofs.Reading.{empty-sized, step-sized}
+use Rattle.profile.proofs.Replay.{stepBy, readBy, read-by, writeBy, leavesBy, alike, read-agree}
 
 -- ---- patterns
 
@@ -204,7 +201,7 @@ module _ (pattern : ℕ → Pattern) (t : Tables) (f : Field) where
 
   lineEntriesBy : List Entry
   lineEntriesBy =
-      rule 14 0 (all (map (λ (g : ℕ). ltb g (f .lines)) (gateLines f)))
+      rule 14 0 (linesRight f)
       ∷ rule 14 0 (not (hasSecond f) || all (map (secondRightBy (pattern (f .second))) (gateLines f)))
       ∷ []
 
@@ -242,21 +239,11 @@ check-before p z = rw (range-before p, judge-before p z)
 
 -- ---- the writer: its bytes have their definition still; its answer and what it leaves go by the check's verdict
 
-abbrev writeVerdictBefore : Profile → ℕ → Verdict
-writeVerdictBefore p room =
-    cond (accepts (checkBefore p))
-    (cond (leb (length (writeScript p)) room) accepted (refused 18 (length (writeScript p))))
-    (checkBefore p)
-
 pub writeBefore : Profile → ℕ → Written
-writeBefore p room =
-    record {
-      verdict = writeVerdictBefore p room;
-      length = cond (accepts (writeVerdictBefore p room)) (length (writeScript p)) 0;
-    }
+writeBefore p room = writeBy (checkBefore p) (writeScript p) room
 
 pub leavesBefore : Profile → List ℕ → List ℕ
-leavesBefore p out = cond (accepts (writeVerdictBefore p (length out))) (over (writeScript p) out) out
+leavesBefore p out = leavesBy (checkBefore p) (writeScript p) out
 
 pub write-before : (p : Profile) (room : ℕ) → Sized p → writeAnswer p room ≡ writeBefore p room
 unfolding writeAnswer writeBefore
@@ -319,44 +306,21 @@ register-before b bytes =
 abbrev fitsBefore : ℕ → List ℕ → Bool
 fitsBefore kind b = byKind kind (registerBefore b) (sequenceFits b) (fieldFits b) (gateFits b) (subckFits b) (shutterFits b)
 
-stepBefore : List ℕ → Profile → Stepped
-stepBefore s p =
-    cond (ltb (length s) 4) (stop 2)
-    (cond (not (known (numberAt s 2))) (stop 3)
-    (cond (not (allowed (numberAt s 2) (numberAt s 0))) (stop 4)
-    (cond (ltb (length s) (4 + numberAt s 0)) (stop 2)
-    (cond (fitsBefore (numberAt s 2) (bodyOf s)) (next (numberAt s 0) (withRecord (numberAt s 2) (bodyOf s) p)) (stop 5)))))
-
-pub recordsBefore : ℕ → ℕ → List ℕ → Profile → ReadAnswer
-recordsBefore skip at [] p = readAnswer accepted p
-recordsBefore zero at (x ∷ xs) p =
-    elim (stepBefore (x ∷ xs) p) [ stop n ↦ readAnswer (refused n at) p | next len q ↦ recordsBefore (afterFirst len) (at + 1) xs q ]
-recordsBefore (suc skip) at (x ∷ xs) p = recordsBefore skip (at + 1) xs p
-
-abbrev judgedBefore : ReadAnswer → ReadAnswer
-judgedBefore r = cond (accepts (r .verdict)) (readAnswer (judgeBefore (r .profile)) (r .profile)) r
+abbrev stepBefore : List ℕ → Profile → Stepped
+stepBefore = stepBy allowed fitsBefore withRecord
 
 pub readBefore : List ℕ → ReadAnswer
-readBefore s = cond (leb (length s) mostBytes) (judgedBefore (recordsBefore 0 0 s emptyProfile)) (readAnswer (refused 1 0) emptyProfile)
+readBefore = readBy stepBefore judgeBefore
 
 step-before : (s : List ℕ) (p : Profile) → Bytes s → step s p ≡ stepBefore s p
-unfolding step stepBefore fits
+unfolding step stepBy fits
 step-before s p bytes = rw (register-before (bodyOf s) (bytes-part s (numberAt s 0) 4 bytes))
 
-pub records-before : (s : List ℕ) (skip at : ℕ) (p : Profile) → Bytes s → records skip at s p ≡ recordsBefore skip at s p
-unfolding records recordsBefore
-records-before [] skip at p bytes = refl
-records-before (x ∷ xs) zero at p bytes =
-    rw (records, recordsBefore, step-before (x ∷ xs) p bytes) (by-step (stepBefore (x ∷ xs) p) (λ skip at q. records-before xs skip at q (bytes-tail bytes)))
-  where
-    by-step : (r : Stepped) → ((skip at : ℕ) (q : Profile) → records skip at xs q ≡ recordsBefore skip at xs q)
-        → _≡_ {A = ReadAnswer} (elim r [ stop n ↦ readAnswer (refused n at) p | next len q ↦ records (afterFirst len) (at + 1) xs q ])
-        (elim r [ stop n ↦ readAnswer (refused n at) p | next len q ↦ recordsBefore (afterFirst len) (at + 1) xs q ])
-    by-step (stop n) on = refl
-    by-step (next len q) on = on (afterFirst len) (at + 1) q
-records-before (x ∷ xs) (suc skip) at p bytes = records-before xs skip (at + 1) p (bytes-tail bytes)
-
 pub read-before : (s : List ℕ) → Bytes s → readScript s ≡ readBefore s
-unfolding readScript readBefore
+unfolding readBefore
 read-before s bytes =
-    rw (← (records-before s 0 0 emptyProfile bytes), judge-before (records 0 0 s emptyProfile .profile) (records-sized s 0 0 emptyProfile empty-sized))
+    read-by s
+    ∙ ⊎-elim (λ e. e) (λ e. absurd e)
+    (read-agree Sized (λ n. ⊥) step stepBefore empty-sized
+    (λ s p w z. alike Sized (λ n. ⊥) (step s p) (stepBefore s p) (step-before s p w) (λ len q. step-sized s p len q z))
+    judge judgeBefore judge-before (λ e. e) s bytes)

@@ -13,8 +13,8 @@ use lib.ListN.{length, getD, take, drop, length-take, List·getD-eq-default}
 use lib.Seq.{getD-take, getD-drop}
 use Rattle.profile.specs.Lists.{all, chunks}
 use Rattle.profile.specs.Bytes.{Bytes, twoBytes, threeBytes, recordOf}
-use Rattle.profile.specs.Values.{modeNumber, emptySequence, emptyGate, emptyShutter}
-use Rattle.profile.specs.Geometry.{regionCount, regionAt}
+use Rattle.profile.specs.Values.{none, modeNumber, emptySequence, emptyGate, emptyShutter}
+use Rattle.profile.specs.Geometry.{regionCount, regionAt, hasSecondLine}
 use Rattle.profile.specs.Ranges.{sequenceRange, fieldRange, regionRange, gateRange, subckRange, shutterRange, regionIn, inRange}
 use Rattle.profile.specs.Script.{kinds}
 use Rattle.profile.specs.Writing.{
@@ -40,6 +40,7 @@ use Rattle.profile.specs.declared.Subck.{Subck}
 use Rattle.profile.specs.declared.Shutter.{Shutter}
 use Rattle.profile.specs.declared.Profile.{Profile}
 use Rattle.profile.proofs.Laws.{by-cases, or-cases, cond-case, passed}
+use Rattle.profile.proofs.Forms.{head-most}
 use Rattle.profile.proofs.Stores.{length-two, length-body, scriptPart, all-parts}
 use Rattle.profile.proofs.Items.{
   Items,
@@ -156,17 +157,25 @@ bytes-region f i e =
     let r = regionAt f i in
     bytes-two (r .first ∷ r .sequence ∷ modeNumber (r .mode) ∷ []) (omega (arith, leb-true, mode-below (r .mode)))
 
-second-below : (x : ℕ) → eqb x 65535 || leb x 9 ≡ true → x < 65536
-second-below x e =
-    ⊎-elim (λ h. omega (arith, eqb-true x 65535 h)) (λ h. omega (arith, leb-true x 9 h)) (or-cases (eqb x 65535) (leb x 9) e)
+-- none, or at most so much, has two bytes
+or-none-below : (x top : ℕ) → top < 65536 → eqb x none || leb x top ≡ true → x < 65536
+or-none-below x top l e =
+    ⊎-elim (λ h. omega (arith, eqb-true x none h)) (λ h. omega (arith, leb-true x top h)) (or-cases (eqb x none) (leb x top) e)
+
+bytes-head : (f : Field) → all (fieldRange f) ≡ true → Bytes (fieldHead f)
+bytes-head f e =
+    let q = passed (fieldRange f) e in
+    let g = or-none-below (f .gate2) 4094 (omega arith) (q .0) in
+    let s = or-none-below (f .second) 9 (omega arith) (q .1 .0) in
+    by-cases (hasSecondLine f)
+    (λ h. rw h (bytes-two (f .lines ∷ f .last ∷ f .gate ∷ f .gate2 ∷ f .second ∷ f .count ∷ []) (omega (arith, leb-true))))
+    (λ h. rw h (bytes-two (f .lines ∷ f .last ∷ f .gate ∷ f .second ∷ f .count ∷ []) (omega (arith, leb-true))))
 
 bytes-field : (f : Field) → all (fieldRange f) ≡ true → ((i : ℕ) → i < 7 → regionIn f i ≡ true) → Bytes (fieldRecord f)
 bytes-field f e r =
-    let q = passed (fieldRange f) e in
     let n = regionCount f in
-    bytes-record 3 (fieldBody f n) (omega (arith, length-body f n))
-    (bytes-append (fieldHead f) (chunks n (regionBytes f))
-    (bytes-two (f .lines ∷ f .last ∷ f .gate ∷ f .second ∷ f .count ∷ []) (omega (arith, leb-true, second-below (f .second) (q .0))))
+    bytes-record 3 (fieldBody f n) (omega (arith, length-body f n, head-most (hasSecondLine f)))
+    (bytes-append (fieldHead f) (chunks n (regionBytes f)) (bytes-head f e)
     (bytes-chunks n (regionBytes f) (λ i h. bytes-region f i (region-present f i (r i (omega arith)) (omega arith)))))
 
 -- ---- the script

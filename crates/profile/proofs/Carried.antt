@@ -45,7 +45,7 @@ use Rattle.profile.specs.Obeys.{
   ShutterIn,
   Ranged,
 }
-use Rattle.profile.specs.Values.{emptyRegion}
+use Rattle.profile.specs.Values.{none, emptyRegion}
 use Rattle.profile.specs.declared.layout.Part.{Part}
 use Rattle.profile.specs.declared.layout.Part.the-variants.{Levels, Length, Toggle, Freeze, Resume}
 use Rattle.profile.specs.declared.Sequence.{Sequence}
@@ -108,15 +108,17 @@ shutter-says s = (
   λ w. all-passed (shutterRange s) (omega (arith, le-leb)),
 )
 
-second-says : (second : ℕ) → Says (eqb second 65535 || leb second 9) ((second ≡ 65535) ⊎ (second ≤ 9))
-second-says second = says-or (says-eq second 65535) (says-le second 9)
+-- a number that is none, or at most so much
+or-none : (x top : ℕ) → Says (eqb x none || leb x top) ((x ≡ none) ⊎ (x ≤ top))
+or-none x top = says-or (says-eq x none) (says-le x top)
 
 pub field-says : (f : Field) → Says (all (fieldRange f)) (FieldRanged f)
 field-says f = (
   (λ e.
       let w = passed (fieldRange f) e in
       record {
-        second = second-says (f .second) .0 (w .0);
+        second-line = or-none (f .gate2) 4094 .0 (w .0);
+        second = or-none (f .second) 9 .0 (w .1 .0);
         some-lines = omega (arith, leb-true);
         most-lines = omega (arith, leb-true);
         shortest = omega (arith, leb-true);
@@ -125,7 +127,7 @@ field-says f = (
         some-regions = omega (arith, leb-true);
         most-regions = omega (arith, leb-true);
       }),
-  λ w. all-passed (fieldRange f) (second-says (f .second) .1 (w .second), omega (arith, le-leb)),
+  λ w. all-passed (fieldRange f) (or-none (f .gate2) 4094 .1 (w .second-line), (or-none (f .second) 9 .1 (w .second), omega (arith, le-leb))),
 )
 
 pub region-says : (f : Field) (i : ℕ) → Says (all (regionRange (regionAt f i))) (RegionRanged (regionAt f i))
@@ -218,13 +220,15 @@ region-in f i =
 
 pub head-in : (f : Field)
     → Says (headIn f)
-    (Given (f .present) (FieldRanged f) ((f .lines ≡ 0) × (f .last ≡ 0) × (f .gate ≡ 0) × (f .second ≡ 0) × (f .count ≡ 0)))
+    (Given (f .present) (FieldRanged f) ((f .lines ≡ 0) × (f .last ≡ 0) × (f .gate ≡ 0) × (f .gate2 ≡ 0) × (f .second ≡ 0) × (f .count ≡ 0)))
 unfolding headIn
 head-in f =
     says-item (f .present) (field-says f)
     (λ h. (
-      (λ e. let z = says-zeros (f .lines ∷ f .last ∷ f .gate ∷ f .second ∷ f .count ∷ []) .0 e in (z .0, z .1 .0, z .1 .1 .0, z .1 .1 .1 .0, z .1 .1 .1 .1 .0)),
-      λ w. says-zeros (f .lines ∷ f .last ∷ f .gate ∷ f .second ∷ f .count ∷ []) .1 (w .0, (w .1, (w .2, (w .3, (w .4, tt))))),
+      (λ e.
+          let z = says-zeros (f .lines ∷ f .last ∷ f .gate ∷ f .gate2 ∷ f .second ∷ f .count ∷ []) .0 e in
+          (z .0, z .1 .0, z .1 .1 .0, z .1 .1 .1 .0, z .1 .1 .1 .1 .0, z .1 .1 .1 .1 .1 .0)),
+      λ w. says-zeros (f .lines ∷ f .last ∷ f .gate ∷ f .gate2 ∷ f .second ∷ f .count ∷ []) .1 (w .0, (w .1, (w .2, (w .3, (w .4, (w .5, tt)))))),
     ))
 
 -- ---- the whole profile

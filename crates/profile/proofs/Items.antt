@@ -121,7 +121,7 @@ shutter-absent s e = shutter-in s .0 e .1
 
 -- the numbers of an absent field
 pub field-absent : (f : Field) → headIn f ≡ true → f .present ≡ false
-    → (f .lines ≡ 0) × (f .last ≡ 0) × (f .gate ≡ 0) × (f .second ≡ 0) × (f .count ≡ 0)
+    → (f .lines ≡ 0) × (f .last ≡ 0) × (f .gate ≡ 0) × (f .gate2 ≡ 0) × (f .second ≡ 0) × (f .count ≡ 0)
 field-absent f e = head-in f .0 e .1
 
 -- ---- regions: given below n

@@ -1,17 +1,17 @@
 -- The verdict of rules as the code finds it: part after part, entry after entry. A part that is fine hands on to the next, a broken one
 -- answers for the whole.
 -- Assumes nothing.
-use Prim.Native.Nat.{ℕ, _+_, _-_, _≤_, _<_}
+use Prim.Native.Nat.{ℕ, _+_, _-_, _≤_, _<_, min}
 use native.Mathlib.Omega.{arith}
 use mathlib.Core.Path.{_≡_, refl, sym, ap, _∙_}
-use mathlib.Core.Bool.{Bool, true, false, cond, not, _||_}
+use mathlib.Core.Bool.{Bool, true, false, cond, not, _&&_, _||_}
 use mathlib.Core.List.{List, [], _∷_, _++_, append-assoc, map}
 use lib.ListN.{getD}
-use lib.Dec.{eqb, lit≤}
-use borrow.Author.Tests.{not-true, not-false, eq-eqb, ne-eqb, lt-ltb, le-ltb}
-use Rattle.profile.specs.Lists.{all, chunks}
-use Rattle.profile.specs.Values.{accepted, refused, refusedToggle, accepts}
-use Rattle.profile.specs.Geometry.{regionCount, gateOf, gateLines}
+use lib.Dec.{ltb, leb, eqb, lit≤}
+use borrow.Author.Tests.{not-true, not-false, eq-eqb, ne-eqb, leb-true, leb-false}
+use Rattle.profile.specs.Lists.{all, distinct, least, chunks}
+use Rattle.profile.specs.Values.{none, accepted, refused, refusedToggle, accepts}
+use Rattle.profile.specs.Geometry.{regionCount, gateOf, lineLength, hasSecondLine, gateLines, gateLength}
 use Rattle.profile.specs.Patterns.{rowOf, rowsOf, used, inOrder, toggleFault}
 use Rattle.profile.specs.Rules.{
   Entry,
@@ -22,6 +22,7 @@ use Rattle.profile.specs.Rules.{
   toggleEntries,
   hasSecond,
   secondOf,
+  linesRight,
   secondRight,
   gateRight,
   orderEntries,
@@ -35,11 +36,14 @@ use Rattle.profile.specs.Rules.{
 }
 use Rattle.profile.specs.declared.Mode.{Mode}
 use Rattle.profile.specs.declared.Pattern.{Pattern}
+use Rattle.profile.specs.declared.Gate.{Gate}
 use Rattle.profile.specs.declared.Tables.{Tables}
 use Rattle.profile.specs.declared.Field.{Field}
 use Rattle.profile.specs.declared.Profile.{Profile}
 use Rattle.profile.specs.declared.Verdict.{Verdict}
 use Rattle.profile.proofs.Laws.{by-cases, or-left, tested-no, tested-yes, all-one, chunks-more, chunks-ext, chunks-add}
+use Rattle.profile.proofs.Tested.{joined-all}
+use Rattle.profile.proofs.Reflects.{says-gate}
 use Rattle.profile.proofs.Entries.{Numbered, fine-then, broken-then, number-accepted, numbered-chunks, chunks-accept}
 use Rattle.profile.proofs.Checked.{judge-entries, numbered-at, numbered-lines}
 
@@ -120,15 +124,42 @@ module _ {n m i : ℕ} {f : ℕ → List Entry} (d : Fine n m f i) where
       pub fine-refused : {w : Verdict} → v ≡ w → 1 ≤ w .number → v ≡ firstBroken (chunks m f)
       fine-refused r p = fine-stop (λ z. absurd (omega (arith, number-of r z)))
 
--- 15 on a gate line of the given length: what `gateEntries` is at the field's gate line
+-- 15 on a line of the given length
 abbrev pub gatesOn : Tables → ℕ → ℕ → List Entry
-gatesOn t length k = rule 15 k (all (gateRight (gateOf t k) length ∷ [])) ∷ []
+gatesOn t length k = rule 15 k (gateRight (gateOf t k) length) ∷ []
 
-pub gates-length : (t : Tables) {v : Verdict} {m n : ℕ} → m ≡ n → v ≡ firstBroken (chunks 5 (gatesOn t m)) → v ≡ firstBroken (chunks 5 (gatesOn t n))
-gates-length t e f = f ∙ ap (λ (m : ℕ). firstBroken (chunks 5 (gatesOn t m))) e
+-- a gate that is right on a line is right on a longer one, so that the shortest decides
+gate-longer : (gate : Gate) (a b : ℕ) → a ≤ b → gateRight gate a ≡ true → gateRight gate b ≡ true
+gate-longer gate a b h e = says-gate gate b .1 (λ p o. let w = says-gate gate a .0 e p o in (w .0, omega (arith, w .1)))
 
-pub one-test : (b : Bool) {c : Bool} → b ≡ c → all (b ∷ []) ≡ c
-one-test b e = all-one b ∙ e
+gate-both : (gate : Gate) (a b : ℕ) → gateRight gate (min a b) ≡ gateRight gate a && gateRight gate b
+gate-both gate a b =
+    by-cases (leb a b)
+    (λ h.
+    let l = leb-true a b h in
+    let m : min a b ≡ a = omega arith in
+    rw m (by-cases (gateRight gate a) (λ e. rw (e, gate-longer gate a b l e)) (λ e. rw e)))
+    (λ h.
+    let l = leb-false a b h in
+    let m : min a b ≡ b = omega arith in
+    rw m
+    (by-cases (gateRight gate b) (λ e. rw (e, gate-longer gate b a (omega arith) e))
+    (λ e. rw e (by-cases (gateRight gate a) (λ o. rw o) (λ o. rw o)))))
+
+gate-lines : (t : Tables) (f : Field) (gate : Gate)
+    → gateRight gate (gateLength t f) ≡ all (map (λ (g : ℕ). gateRight gate (lineLength t f g)) (gateLines f))
+unfolding gateLength least
+gate-lines t f gate =
+    by-cases (hasSecondLine f)
+    (λ e. rw e (gate-both gate (lineLength t f (f .gate)) (lineLength t f (f .gate2)) ∙ joined-all _ (gateRight gate (lineLength t f (f .gate2)) ∷ [])))
+    (λ e. rw e (sym (all-one _)))
+
+-- and so on every gate line
+pub gates-length : (t : Tables) (f : Field) {v : Verdict} {m : ℕ} → m ≡ gateLength t f
+    → v ≡ firstBroken (chunks 5 (gatesOn t m)) → v ≡ firstBroken (chunks 5 (gateEntries t f))
+gates-length t f e w =
+    w ∙ ap (λ (m : ℕ). firstBroken (chunks 5 (gatesOn t m))) e
+    ∙ ap firstBroken (chunks-ext 5 _ _ (λ k h. ap (λ (b : Bool). rule 15 k b ∷ []) (gate-lines t f (gateOf t k))))
 
 -- ---- 10 at one region
 
@@ -178,38 +209,73 @@ rows-right i uses l e =
     ap accepts e ∙ chunks-accept 6 _ (numbered-rows i uses (rowOf l))
     ∙ ap all (chunks-ext 6 _ _ (λ k h. ap (λ (b : Bool). b ∷ []) (row-accepts i uses (rowOf l k) k)))
 
--- ---- 14: one gate line
+-- ---- tests of one or two gate lines
+
+-- the tests of linesRight, of one line and of two
+one-apart : (a : Bool) → a ≡ all (a ∷ []) && (all [] && true)
+unfolding all
+one-apart true = refl
+one-apart false = refl
+
+two-apart : (a b c : Bool) → (a && b) && c ≡ all (a ∷ b ∷ []) && (all (c ∷ []) && (all [] && true))
+unfolding all
+two-apart true true true = refl
+two-apart true true false = refl
+two-apart true false c = refl
+two-apart false b c = refl
+
+module _ (f : Field) {two : Bool} (told : two ≡ hasSecondLine f) where
+  module _ (test : ℕ → Bool) {a : Bool} (first : a ≡ test (f .gate)) where
+    -- of one, and of both
+    pub line-one : not two ≡ true → a ≡ all (map test (gateLines f))
+    line-one e = first ∙ rw (tested-no told e) (sym (all-one (test (f .gate))))
+
+    pub line-both : {b : Bool} → not two ≡ false → b ≡ test (f .gate2) → a && b ≡ all (map test (gateLines f))
+    line-both e second = rw (first, second, tested-yes told e) (joined-all (test (f .gate)) (test (f .gate2) ∷ []))
+
+  -- one line differs from no other
+  pub lines-one : not two ≡ true → ltb (f .gate) (f .lines) ≡ linesRight f
+  unfolding linesRight distinct
+  lines-one e = rw (tested-no told e) (one-apart (ltb (f .gate) (f .lines)))
+
+  pub lines-both : not two ≡ false → (ltb (f .gate) (f .lines) && ltb (f .gate2) (f .lines)) && not (eqb (f .gate) (f .gate2)) ≡ linesRight f
+  unfolding linesRight distinct
+  lines-both e =
+      rw (tested-yes told e) (two-apart (ltb (f .gate) (f .lines)) (ltb (f .gate2) (f .lines)) (not (eqb (f .gate) (f .gate2))))
+
+-- ---- 14
 
 abbrev second-test : Tables → Field → Bool
 second-test t f = not (hasSecond f) || all (map (secondRight t f (secondOf t f)) (gateLines f))
 
-second-is : (t : Tables) (f : Field) {a : Pattern} {r : Bool} → (f .second ≡ 65535 → ⊥) → a ≡ secondOf t f → r ≡ secondRight t f a (f .gate)
-    → r ≡ second-test t f
-second-is t f n ea er = er ∙ rw (ea, ne-eqb (f .second) 65535 n) (sym (all-one _))
+second-is : (t : Tables) (f : Field) {a : Pattern} {r : Bool} → (f .second ≡ none → ⊥) → a ≡ secondOf t f
+    → r ≡ all (map (secondRight t f a) (gateLines f)) → r ≡ second-test t f
+second-is t f n ea er = er ∙ rw (ea, ne-eqb (f .second) none n)
 
-module _ (t : Tables) (f : Field) {v : Verdict} where
-  pub line-out : f .lines ≤ f .gate → v ≡ refused 14 0 → v ≡ firstBroken (lineEntries t f)
+module _ (t : Tables) (f : Field) {v : Verdict} {q : Bool} (eq : q ≡ linesRight f) where
+  pub line-out : not q ≡ true → v ≡ refused 14 0 → v ≡ firstBroken (lineEntries t f)
   unfolding lineEntries
-  line-out h = head-broken _ _ _ _ (all-one _ ∙ le-ltb (f .gate) (f .lines) h)
+  line-out h = head-broken _ _ _ _ (tested-no eq h)
 
-  module _ (h : f .gate < f .lines) where
+  module _ (h : not q ≡ false) where
     line-on : v ≡ firstBroken (rule 14 0 (second-test t f) ∷ []) → v ≡ firstBroken (lineEntries t f)
     unfolding lineEntries
-    line-on = head-on _ _ _ _ (all-one _ ∙ lt-ltb (f .gate) (f .lines) h)
+    line-on = head-on _ _ _ _ (tested-yes eq h)
 
-    pub no-second : f .second ≡ 65535 → v ≡ accepted → v ≡ firstBroken (lineEntries t f)
-    no-second e a = line-on (head-on _ _ _ _ (or-left _ _ (ap (λ (b : Bool). not (not b)) (eq-eqb (f .second) 65535 e))) (none-broken a))
+    pub no-second : f .second ≡ none → v ≡ accepted → v ≡ firstBroken (lineEntries t f)
+    no-second e a = line-on (head-on _ _ _ _ (or-left _ _ (ap (λ (b : Bool). not (not b)) (eq-eqb (f .second) none e))) (none-broken a))
 
     -- the second pattern, and its test, as the code has them
-    module _ (n : f .second ≡ 65535 → ⊥) {a : Pattern} {r : Bool} (ea : a ≡ secondOf t f) (er : r ≡ secondRight t f a (f .gate)) where
+    module _ (n : f .second ≡ none → ⊥) {a : Pattern} {r : Bool} (ea : a ≡ secondOf t f) (er : r ≡ all (map (secondRight t f a) (gateLines f))) where
       pub second-broken : not r ≡ true → v ≡ refused 14 0 → v ≡ firstBroken (lineEntries t f)
       second-broken e a = line-on (head-broken _ _ _ _ (tested-no (second-is t f n ea er) e) a)
 
       pub second-fine : not r ≡ false → v ≡ accepted → v ≡ firstBroken (lineEntries t f)
       second-fine e a = line-on (head-on _ _ _ _ (tested-yes (second-is t f n ea er) e) (none-broken a))
 
-  -- ---- 7 to 17 in two parts
+-- ---- 7 to 17 in two parts
 
+module _ (t : Tables) (f : Field) {v : Verdict} where
   pub rules-parts : v
       ≡ firstBroken
       (chunks (regionCount f) (orderEntries f)
@@ -237,7 +303,6 @@ pub ruleset judging = (
   none-broken,
   part-broken,
   part-on,
-  one-test,
   tested-no,
   tested-yes,
   not-true,

@@ -106,7 +106,7 @@ with-own b k (register-fits h l u) p q y z =
     (x .0 ∙ sym (x′ .0), x .1 ∙ sym (x′ .1))
 with-own b k (sequence-fits h w) p q y z =
     own-item (p .tables .sequences) (q .tables .sequences) (numberAt b 0) _ _ (omega (arith, y .sequences)) (omega (arith, z .sequences))
-with-own b k (field-fits h w r) p q y z = refl
+with-own b k (field-fits two h w r) p q y z = refl
 with-own b k (gate-fits h w) p q y z =
     own-item (p .tables .gates) (q .tables .gates) (numberAt b 0) _ _ (omega (arith, y .gates)) (omega (arith, z .gates))
 with-own b k (subck-fits w) p q y z = refl

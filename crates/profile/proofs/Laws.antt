@@ -383,6 +383,16 @@ each-at P [] d a z i = z
 each-at P (x ∷ xs) d a z zero = a .0
 each-at P (x ∷ xs) d a z (suc i) = each-at P xs d (a .1) z i
 
+-- and at each place that the list has
+pub each-inside : {A : Type 0} (P : A → Type 0) (xs : List A) (d : A) → Each P xs → (i : ℕ) → i < length xs → P (getD xs i d)
+each-inside P [] d a i h = absurd (omega arith)
+each-inside P (x ∷ xs) d a zero h = a .0
+each-inside P (x ∷ xs) d a (suc i) h = each-inside P xs d (a .1) i (omega arith)
+
+pub each-places : {A : Type 0} (P : A → Type 0) (xs : List A) (d : A) → ((i : ℕ) → i < length xs → P (getD xs i d)) → Each P xs
+each-places P [] d f = tt
+each-places P (x ∷ xs) d f = (f 0 (omega arith), each-places P xs d (λ i h. f (suc i) (omega arith)))
+
 module _ {A : Type 0} (P : A → Type 0) where
   pub each-append : (a b : List A) → Each P a → Each P b → Each P (a ++ b)
   each-append [] b v w = w

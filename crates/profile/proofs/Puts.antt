@@ -30,6 +30,9 @@ use Rattle.profile.specs.Ranges.{
 use Rattle.profile.specs.Script.{
   headLength,
   regionLength,
+  countFrom,
+  fieldWith,
+  fitsWith,
   lowFrom,
   highFrom,
   registerFits,
@@ -98,38 +101,44 @@ stored P n l k v d new old i h =
 
 -- ---- kind 3
 
-field-tests : (b : List ℕ) → fieldFits b ≡ true → all (fieldRange (fieldFrom b)) ≡ true
-unfolding fieldFits
-field-tests b e =
-    let t = eqb (headLength + regionLength * numberAt b 8) (length b) ∷ fieldRange (fieldFrom b) in
-    all-passed (fieldRange (fieldFrom b)) (passed t (and-left (all t) _ e) .1)
+-- in either form
+module _ (two : Bool) (b : List ℕ) (e : fitsWith two b ≡ true) where
+  abbrev head : ℕ
+  head = headLength two
 
-count-high : (b : List ℕ) → fieldFits b ≡ true → numberAt b 8 ≤ 7
-unfolding fieldFrom
-count-high b e = field-count (fieldFrom b) (field-tests b e) .1
+  field-tests : all (fieldRange (fieldWith two b)) ≡ true
+  unfolding fitsWith
+  field-tests =
+      let t = eqb (head + regionLength * countFrom head b) (length b) ∷ fieldRange (fieldWith two b) in
+      all-passed (fieldRange (fieldWith two b)) (passed t (and-left (all t) _ e) .1)
 
-length-regions : (b : List ℕ) → fieldFits b ≡ true → length (fieldFrom b .regions) ≡ 7
-unfolding fieldFrom
-length-regions b e = omega (arith, length-padded (numberAt b 8) (7 - numberAt b 8) (regionFrom b) emptyRegion, count-high b e)
+  count-high : countFrom head b ≤ 7
+  unfolding fieldWith
+  count-high = field-count (fieldWith two b) field-tests .1
 
-field-ranged : (b : List ℕ) → fieldFits b ≡ true → headIn (fieldFrom b) ≡ true
-unfolding fieldFrom headIn
-field-ranged b e = field-tests b e
+  length-regions : length (fieldWith two b .regions) ≡ 7
+  unfolding fieldWith
+  length-regions =
+      omega (arith, length-padded (countFrom head b) (7 - countFrom head b) (regionFrom head b) emptyRegion, count-high)
 
-region-ranged : (b : List ℕ) → fieldFits b ≡ true → (i : ℕ) → i < 7 → regionIn (fieldFrom b) i ≡ true
-unfolding fieldFits fieldFrom
-region-ranged b e i h =
-    let n = numberAt b 8 in
-    let c = and-right (all (eqb (headLength + regionLength * n) (length b) ∷ fieldRange (fieldFrom b))) _ e in
-    by-cases (ltb i n)
-    (λ u.
-    let l = ltb-true i n u in
-    let r = all-passed (regionRange (regionFrom b i)) (passed (regionFits b i) (all-chunks n (regionFits b) c i l) .1) in
-    region-inside (fieldFrom b) i l
-    (ap (λ (r : Region). all (regionRange r)) (padded-front n (7 - n) (regionFrom b) emptyRegion i l) ∙ r))
-    (λ u.
-    let l = ltb-false i n u in
-    region-past (fieldFrom b) i l (padded-past n (7 - n) (regionFrom b) emptyRegion i l))
+  field-ranged : headIn (fieldWith two b) ≡ true
+  unfolding fieldWith headIn
+  field-ranged = field-tests
+
+  region-ranged : (i : ℕ) → i < 7 → regionIn (fieldWith two b) i ≡ true
+  unfolding fitsWith fieldWith
+  region-ranged i h =
+      let n = countFrom head b in
+      let c = and-right (all (eqb (head + regionLength * n) (length b) ∷ fieldRange (fieldWith two b))) _ e in
+      by-cases (ltb i n)
+      (λ u.
+      let l = ltb-true i n u in
+      let r = all-passed (regionRange (regionFrom head b i)) (passed (regionFits head b i) (all-chunks n (regionFits head b) c i l) .1) in
+      region-inside (fieldWith two b) i l
+      (ap (λ (r : Region). all (regionRange r)) (padded-front n (7 - n) (regionFrom head b) emptyRegion i l) ∙ r))
+      (λ u.
+      let l = ltb-false i n u in
+      region-past (fieldWith two b) i l (padded-past n (7 - n) (regionFrom head b) emptyRegion i l))
 
 -- ---- kind 1
 
@@ -187,7 +196,7 @@ with-sized kind b p z =
     with-case Sized kind b p
     (λ f. sized (simp length-set (z .registers)) (z .sequences) (z .gates) (z .shutters) (z .regions))
     (λ f. sized (z .registers) (simp length-set (z .sequences)) (z .gates) (z .shutters) (z .regions))
-    (λ f. sized (z .registers) (z .sequences) (z .gates) (z .shutters) (length-regions b f))
+    (λ f. sized (z .registers) (z .sequences) (z .gates) (z .shutters) (length-regions _ b f))
     (λ f. sized (z .registers) (z .sequences) (simp length-set (z .gates)) (z .shutters) (z .regions))
     (λ f. sized (z .registers) (z .sequences) (z .gates) (z .shutters) (z .regions))
     (λ f. sized (z .registers) (z .sequences) (z .gates) (simp length-set (z .shutters)) (z .regions))
@@ -211,7 +220,7 @@ with-items kind b p r =
     stored (λ (i : ℕ) (s : Sequence). sequenceIn s ≡ true) 10 (t .sequences) (numberAt b 0) (sequenceFrom b) emptySequence
     (sequence-ranged b f) (r .sequences) in
     ranged _ (r .halves) s (r .gates) (r .subck) (r .shutters) (r .field) (r .regions))
-    (λ f. ranged _ (r .halves) (r .sequences) (r .gates) (r .subck) (r .shutters) (field-ranged b f) (region-ranged b f))
+    (λ f. ranged _ (r .halves) (r .sequences) (r .gates) (r .subck) (r .shutters) (field-ranged _ b f) (region-ranged _ b f))
     (λ f.
     let g =
     stored (λ (i : ℕ) (g : Gate). gateIn g ≡ true) 5 (t .gates) (numberAt b 0) (gateFrom b) emptyGate (gate-ranged b f) (r .gates) in

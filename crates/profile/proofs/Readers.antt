@@ -34,11 +34,13 @@ use Rattle.profile.specs.Script.{
   withShutter,
   regionFrom,
   regionsFrom,
-  fieldFrom,
+  hasForm,
+  countFrom,
+  fieldWith,
   regionFits,
+  fitsWith,
   fieldFits,
   byKind,
-  fieldLength,
 }
 use Rattle.profile.specs.Reading.{bodyAnswer, fieldAnswer, headFrom, regionAnswer, regionsAnswer}
 use Rattle.profile.specs.declared.Sequence.{Sequence}
@@ -150,11 +152,11 @@ pub ruleset reading = (passed-below, body-no, body-yes, sequence-set, gate-set, 
 -- ---- a field's regions
 
 -- region i, of numbers that are the body's
-pub region-made : (b : List ℕ) (i first sequence number : ℕ) (mode : Mode) (r : Bool) → first ≡ numberAt b (regionStart i)
-    → sequence ≡ numberAt b (regionStart i + 2) → number ≡ numberAt b (regionStart i + 4) → mode ≡ modeOf number
+pub region-made : (b : List ℕ) (head i first sequence number : ℕ) (mode : Mode) (r : Bool) → first ≡ numberAt b (regionStart head i)
+    → sequence ≡ numberAt b (regionStart head i + 2) → number ≡ numberAt b (regionStart head i + 4) → mode ≡ modeOf number
     → r ≡ all (regionRange (record { first = first; sequence = sequence; mode = mode }))
-    → record { fits = leb number 2 && r; region = record { first = first; sequence = sequence; mode = mode } } ≡ regionAnswer b i
-region-made b i first sequence number mode r ef es en em er = rw (er, em, ef, es, en, all-front)
+    → record { fits = leb number 2 && r; region = record { first = first; sequence = sequence; mode = mode } } ≡ regionAnswer head b i
+region-made b head i first sequence number mode r ef es en em er = rw (er, em, ef, es, en, all-front)
 
 -- an array filled from the front: one element more
 padded-more : {A : Type 0} (n i : ℕ) (f : ℕ → A) (d : A) → i < n
@@ -164,74 +166,72 @@ padded-more n i f d h =
     rw (k, set-at (chunks i (λ k. f k ∷ [])) d (replicate (n - (i + 1)) d) (f i) i (length-ones i f), chunks-more, append-assoc)
 
 -- of n regions the first i are read and the rest are empty, and fits is their tests
-pub record Filled (b : List ℕ) (n : ℕ) (regions : List Region) (fits : Bool) (i : ℕ) : Type 0 where
+pub record Filled (head : ℕ) (b : List ℕ) (n : ℕ) (regions : List Region) (fits : Bool) (i : ℕ) : Type 0 where
   pub most : i ≤ n
   pub seven : n ≤ 7
   pub long : length regions ≡ 7
-  pub tested : fits ≡ all (chunks i (regionFits b))
-  pub filled : regions ≡ regionsFrom b i ++ replicate (7 - i) emptyRegion
+  pub tested : fits ≡ all (chunks i (regionFits head b))
+  pub filled : regions ≡ regionsFrom head b i ++ replicate (7 - i) emptyRegion
 
-pub filled-none : {b : List ℕ} {n : ℕ} (none : Region) → n ≤ 7 → none ≡ emptyRegion → Filled b n (replicate 7 none) true 0
+pub filled-none : {head : ℕ} {b : List ℕ} {n : ℕ} (none : Region) → n ≤ 7 → none ≡ emptyRegion → Filled head b n (replicate 7 none) true 0
 unfolding all chunks
 filled-none none h e = record { most = omega arith; seven = h; long = refl; tested = refl; filled = rw e }
 
-module _ {b : List ℕ} {n : ℕ} {regions : List Region} {fits : Bool} {i : ℕ} (w : Filled b n regions fits i) where
-  pub filled-more : (g : RegionAnswer) → i < n → g ≡ regionAnswer b i → Filled b n (set regions i (g .region)) (fits && g .fits) (i + 1)
+module _ {head : ℕ} {b : List ℕ} {n : ℕ} {regions : List Region} {fits : Bool} {i : ℕ} (w : Filled head b n regions fits i) where
+  pub filled-more : (g : RegionAnswer) → i < n → g ≡ regionAnswer head b i → Filled head b n (set regions i (g .region)) (fits && g .fits) (i + 1)
   filled-more g h e =
       record {
         most = omega arith;
         seven = w .seven;
         long = simp length-set (w .long);
         tested = rw (w .tested, e, chunks-more, all-append);
-        filled = rw (w .filled, e) (padded-more 7 i (regionFrom b) emptyRegion (omega (arith, w .seven)));
+        filled = rw (w .filled, e) (padded-more 7 i (regionFrom head b) emptyRegion (omega (arith, w .seven)));
       }
 
-  pub filled-all : n ≤ i → record { fits = fits; regions = regions } ≡ regionsAnswer b n
+  pub filled-all : n ≤ i → record { fits = fits; regions = regions } ≡ regionsAnswer head b n
   filled-all h = let e : i ≡ n = omega (arith, w .most) in rw (w .tested, w .filled, e)
 
 pub ruleset filling = (filled-none, filled-more, filled-all)
 
 -- ---- a field
 
--- the numbers before the regions, and their test, as the code has them
-module _ (b : List ℕ) {head : Field} {r : Bool} (made : head ≡ headFrom b) (tested : r ≡ all (fieldRange head)) where
+-- the form, the bytes before the regions, their numbers and the test of these, as the code has them
+module _ (b : List ℕ) {two : Bool} {size : ℕ} {head : Field} {r : Bool} (form : two ≡ hasForm true (length b)) (long : size ≡ headLength two)
+    (made : head ≡ headFrom two b) (tested : r ≡ all (fieldRange head)) where
   abbrev head-right : Bool
-  head-right = eqb (headLength + regionLength * head .count) (length b) && r
+  head-right = eqb (size + regionLength * head .count) (length b) && r
 
-  head-test : head-right ≡ all (eqb (headLength + regionLength * numberAt b 8) (length b) ∷ fieldRange (fieldFrom b))
-  unfolding fieldFrom
-  head-test = rw (tested, made) (all-front _ _)
+  head-test : head-right ≡ all (eqb (headLength two + regionLength * countFrom (headLength two) b) (length b) ∷ fieldRange (fieldWith two b))
+  unfolding fieldWith
+  head-test = rw (tested, made, long) (all-front _ _)
 
   pub head-no : {v : BodyAnswer} (p : Profile) → not head-right ≡ true → v ≡ bodyAnswer false p p → v ≡ fieldAnswer b p
-  unfolding fieldFits
-  head-no p e f = f ∙ rw (sym head-test ∙ not-true _ e)
+  unfolding fitsWith
+  head-no p e f = f ∙ rw (← form, sym head-test ∙ not-true _ e)
 
-  pub head-count : not head-right ≡ false → (headLength + regionLength * head .count ≤ length b) × (head .count ≤ 7)
+  pub head-count : not head-right ≡ false → (size + regionLength * head .count ≤ length b) × (head .count ≤ 7)
   head-count e =
       let t = not-false _ e in
-      let s = eqb-true (headLength + regionLength * head .count) (length b) (and-left _ r t) in
-      let n = field-count head (sym tested ∙ and-right (eqb (headLength + regionLength * head .count) (length b)) r t) in
+      let s = eqb-true (size + regionLength * head .count) (length b) (and-left _ r t) in
+      let n = field-count head (sym tested ∙ and-right (eqb (size + regionLength * head .count) (length b)) r t) in
       (omega arith, n .1)
 
-  module _ (e : not head-right ≡ false) {g : RegionsAnswer} (eg : g ≡ regionsAnswer b (head .count)) where
+  module _ (e : not head-right ≡ false) {g : RegionsAnswer} (eg : g ≡ regionsAnswer size b (head .count)) where
     pub field-fits : g .fits ≡ fieldFits b
-    unfolding fieldFits
-    field-fits = rw (sym head-test ∙ not-false _ e, eg, made)
+    unfolding fitsWith
+    field-fits = rw (← form, sym head-test ∙ not-false _ e, eg, made, long)
 
     pub field-yes : (p : Profile) → not (g .fits) ≡ false → bodyAnswer true (setField (record {
       present = head .present;
       lines = head .lines;
       last = head .last;
       gate = head .gate;
+      gate2 = head .gate2;
       second = head .second;
       count = head .count;
       regions = g .regions;
     }) p) p ≡ fieldAnswer b p
-    unfolding fieldFrom
-    field-yes p t = rw (sym field-fits ∙ not-false _ t, eg, made)
+    unfolding fieldWith
+    field-yes p t = rw (sym field-fits ∙ not-false _ t, eg, made, long, ← form)
 
 pub ruleset reading-field = (head-no, body-no, field-fits, field-yes)
-
--- a field's body holds the numbers before the regions
-pub field-long : (len : ℕ) → fieldLength len ≡ true → headLength ≤ len
-field-long len e = omega (arith, leb-true 16 len (and-left (leb 16 len) _ (and-left (leb 16 len && leb len 52) _ e)))

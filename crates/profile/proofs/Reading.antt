@@ -79,7 +79,7 @@ unfolding emptyTables emptyField inRange all chunks halfPart sequenceIn regionIn
 empty-in = refl
 
 -- an answer's profile is the one at hand or the empty one
-answer-case : (P : Profile → Type 0) → P emptyProfile → (v : Verdict) (p : Profile) → P p → P (readAnswer v p .profile)
+pub answer-case : (P : Profile → Type 0) → P emptyProfile → (v : Verdict) (p : Profile) → P p → P (readAnswer v p .profile)
 answer-case P z v p h = cond-case P (accepts v) p emptyProfile (λ e. h) (λ e. z)
 
 pub records-sized : (s : List ℕ) (skip at : ℕ) (p : Profile) → Sized p → Sized (records skip at s p .profile)

@@ -7,10 +7,10 @@ use mathlib.Core.Path.{_≡_, refl, sym}
 use mathlib.Core.Logic.{_↔_, _⊎_, inl, inr}
 use mathlib.Core.Bool.{Bool, true, false, cond, not, _&&_, _||_, false≢true}
 use mathlib.Core.List.{List, [], _∷_, map}
-use lib.ListN.{getD}
+use lib.ListN.{length, getD}
 use lib.Dec.{ltb, leb, eqb}
 use borrow.Author.Tests.{ltb-true, leb-true, leb-false, eqb-true, eqb-false, lt-ltb, le-leb, eq-eqb, ne-eqb, not-true}
-use Rattle.profile.specs.Lists.{Each, all, chunks}
+use Rattle.profile.specs.Lists.{Each, all, distinct, chunks}
 use Rattle.profile.specs.Patterns.{rowOf, isPlain, not4095, used, inOrder, toggleFault, usedOr0, highestIn, highestUsed}
 use Rattle.profile.specs.Geometry.{regionAt, regionOf, sequenceAt, patternAt, lineLength, hasPixel, repetitions}
 use Rattle.profile.specs.Rules.{
@@ -25,7 +25,7 @@ use Rattle.profile.specs.Rules.{
   comesBefore,
   shutterRight,
 }
-use Rattle.profile.specs.Obeys.{Not4095, Used, Rises, InOrder, Masks, Highest, Counts, Ends, Seconds, Exists, Before, Pulses, Suppresses, Shuts}
+use Rattle.profile.specs.Obeys.{Not4095, Used, Rises, InOrder, Masks, Highest, Counts, Ends, Seconds, Differ, Exists, Before, Pulses, Suppresses, Shuts}
 use Rattle.profile.specs.declared.Mode.{Mode}
 use Rattle.profile.specs.declared.Mode.the-variants.{Plain, Sweep, Multiplier}
 use Rattle.profile.specs.declared.Sequence.{Sequence}
@@ -35,7 +35,7 @@ use Rattle.profile.specs.declared.Subck.{Subck}
 use Rattle.profile.specs.declared.Shutter.{Shutter}
 use Rattle.profile.specs.declared.Tables.{Tables}
 use Rattle.profile.specs.declared.Field.{Field}
-use Rattle.profile.proofs.Laws.{two-or-three, by-cases, and-left, and-right, and-intro, where-true, where-intro, or-cases, or-left, or-right, all-cons, ones-at, ones-all}
+use Rattle.profile.proofs.Laws.{two-or-three, by-cases, and-left, and-right, and-intro, where-true, where-intro, or-cases, or-left, or-right, all-cons, ones-at, ones-all, each-inside, each-places}
 
 -- ---- comparisons and their joining
 
@@ -90,6 +90,21 @@ pub says-map : {X : Type 0} (b : X → Bool) (A : X → Type 0) → ((x : X) →
 unfolding all
 says-map b A f [] = ((λ e. tt), λ w. refl)
 says-map b A f (x ∷ xs) = says-cons (map b xs) (f x) (says-map b A f xs)
+
+-- numbers that differ: the first from each of the rest, and those among themselves
+pub says-differ : (l : List ℕ) → Says (distinct l) (Differ l)
+unfolding distinct
+says-differ [] = ((λ e i j h k. absurd (omega arith)), λ w. refl)
+says-differ (x ∷ xs) =
+    let s = says-and (says-map _ _ (says-ne x) xs) (says-differ xs) in (
+      (λ e. apart (s .0 e .0) (s .0 e .1)),
+      λ w. s .1 (each-places (λ y. x ≡ y → ⊥) xs 0 (λ j h. w 0 (suc j) (omega arith) (omega arith)), λ i j h k. w (suc i) (suc j) (omega arith) (omega arith)),
+    )
+  where
+    apart : Each (λ y. x ≡ y → ⊥) xs → Differ xs → Differ (x ∷ xs)
+    apart a d i zero h k = absurd (omega arith)
+    apart a d zero (suc j) h k = each-inside (λ y. x ≡ y → ⊥) xs 0 a j (omega arith)
+    apart a d (suc i) (suc j) h k = d i j (omega arith) (omega arith)
 
 -- ---- 10: toggles
 

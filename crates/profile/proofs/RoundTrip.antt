@@ -119,8 +119,9 @@ absent-field f e l o r =
       lines = z .0 i;
       last = z .1 i;
       gate = z .2 i;
-      second = z .3 i;
-      count = z .4 i;
+      gate2 = z .3 i;
+      second = z .4 i;
+      count = z .5 i;
       regions = g i;
     }
 

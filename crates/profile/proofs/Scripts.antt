@@ -3,19 +3,19 @@
 use Prim.Native.Nat.{ℕ, zero, suc, _+_, _-_, _*_, _/_, _%_, _≤_, _<_}
 use native.Mathlib.Omega.{arith}
 use mathlib.Core.Path.{_≡_, refl, sym, ap, subst, _∙_}
-use mathlib.Core.Logic.{_↔_, _⊎_, inl, inr}
+use mathlib.Core.Logic.{_↔_, _⊎_, inl, inr, ⊎-elim}
 use mathlib.Core.Bool.{Bool, true, false, false≢true}
 use mathlib.Core.List.{List, [], _∷_, _++_, append-assoc, append-nil}
 use lib.ListN.{length, getD, drop, length-append, take-append-drop, length-drop}
 use lib.Seq.{length-take-le}
 use lib.Dec.{ltb, leb, eqb}
-use borrow.Author.Tests.{ltb-true, ltb-false, leb-true, leb-false, eqb-true, lt-ltb, le-ltb, le-leb, lt-leb, eq-eqb, ne-eqb}
-use Rattle.profile.specs.Lists.{all}
+use borrow.Author.Tests.{ltb-true, ltb-false, leb-true, leb-false, eqb-true, lt-ltb, le-ltb, le-leb, lt-leb, ne-eqb}
+use Rattle.profile.specs.Lists.{all, chunks}
 use Rattle.profile.specs.Bytes.{Bytes, numberAt, twoBytes}
 use Rattle.profile.specs.Values.{emptyProfile, accepted, refused, readAnswer}
 use Rattle.profile.specs.Layout.{halfLimit}
 use Rattle.profile.specs.Ranges.{sequenceRange, fieldRange, gateRange, shutterRange, inRange}
-use Rattle.profile.specs.Obeys.{HalfRanged, SequenceRanged, GateRanged, ShutterRanged}
+use Rattle.profile.specs.Obeys.{HalfRanged, SequenceRanged, FieldRanged, GateRanged, ShutterRanged}
 use Rattle.profile.specs.Rules.{checkProfile}
 use Rattle.profile.specs.Script.{
   kinds,
@@ -26,12 +26,14 @@ use Rattle.profile.specs.Script.{
   highFrom,
   registerFits,
   sequenceFits,
-  fieldFits,
+  hasForm,
+  countFrom,
+  fieldWith,
+  fitsWith,
   gateFits,
   subckFits,
   shutterFits,
   sequenceFrom,
-  fieldFrom,
   regionFits,
   gateFrom,
   subckFrom,
@@ -86,8 +88,9 @@ use Rattle.profile.specs.Records.{
 use Rattle.profile.specs.declared.Profile.{Profile}
 use Rattle.profile.specs.declared.Verdict.{Verdict}
 use Rattle.profile.specs.declared.ReadAnswer.{ReadAnswer}
-use Rattle.profile.proofs.Laws.{by-cases, and-left, and-right, and-intro, passed, all-passed, all-chunks, chunks-all}
-use Rattle.profile.proofs.Reflects.{Says, says-le, says-eq, says-and}
+use Rattle.profile.proofs.Laws.{by-cases, or-cases, passed, all-passed, all-chunks, chunks-all}
+use Rattle.profile.proofs.Reflects.{Says, says-le, says-eq, says-and, says-cons}
+use Rattle.profile.proofs.Forms.{says-form, form-allowed, form-told}
 use Rattle.profile.proofs.Checked.{check-judge}
 use Rattle.profile.proofs.Accepted.{Judged, check-judged, accepted-exactly, refused-exactly, broken-number}
 use Rattle.profile.proofs.Carried.{says-half, sequence-says, gate-says, subck-says, shutter-says, field-says}
@@ -104,7 +107,7 @@ says-known k = says-and (says-le 1 k) (says-le k kinds)
 known-allowed : (k l : ℕ) → Allowed k l → Known k
 known-allowed k l register-4 = (omega arith, omega arith)
 known-allowed k l sequence-14 = (omega arith, omega arith)
-known-allowed k l (field-6n n a b) = (omega arith, omega arith)
+known-allowed k l (field-6n two n a b) = (omega arith, omega arith)
 known-allowed k l gate-10 = (omega arith, omega arith)
 known-allowed k l subck-10 = (omega arith, omega arith)
 known-allowed k l shutter-12 = (omega arith, omega arith)
@@ -113,10 +116,7 @@ allowed-test : (k l : ℕ) → Allowed k l → allowed k l ≡ true
 unfolding allowed
 allowed-test k l register-4 = refl
 allowed-test k l sequence-14 = refl
-allowed-test k l (field-6n n a b) =
-    let len = headLength + regionLength * n in
-    let m : (len - headLength) % regionLength ≡ 0 = omega arith in
-    and-intro (and-intro (le-leb 16 len (omega arith)) (le-leb len 52 (omega arith))) (eq-eqb ((len - headLength) % regionLength) 0 m)
+allowed-test k l (field-6n two n a b) = form-allowed two n a b
 allowed-test k l gate-10 = refl
 allowed-test k l subck-10 = refl
 allowed-test k l shutter-12 = refl
@@ -124,16 +124,20 @@ allowed-test k l shutter-12 = refl
 exact : (k m l : ℕ) → Allowed k m → eqb l m ≡ true → Allowed k l
 exact k m l a e = rw (eqb-true l m e) a
 
+-- a length of a form has so many regions
+form-regions : (two : Bool) (l : ℕ) → hasForm two l ≡ true → Allowed 3 l
+form-regions two l e =
+    let w = says-form two l .0 e in
+    let n = (l - headLength two) / regionLength in
+    let q : headLength two + regionLength * n ≡ l = omega (arith, w .0 .0, w .1) in
+    subst (λ (x : ℕ). Allowed 3 x) q (field-6n two n (omega (arith, w .0 .0)) (omega (arith, w .0 .1)))
+
 test-allowed : (k l : ℕ) → Known k → allowed k l ≡ true → Allowed k l
 unfolding allowed
 test-allowed zero l h e = absurd (omega arith)
 test-allowed (suc zero) l h e = exact 1 4 l register-4 e
 test-allowed (suc (suc zero)) l h e = exact 2 14 l sequence-14 e
-test-allowed (suc (suc (suc zero))) l h e =
-    let w = says-and (says-and (says-le 16 l) (says-le l 52)) (says-eq ((l - headLength) % regionLength) 0) .0 e in
-    let n = (l - headLength) / regionLength in
-    let q : headLength + regionLength * n ≡ l = omega (arith, w .0 .0, w .1) in
-    subst (λ (x : ℕ). Allowed 3 x) q (field-6n n (omega (arith, w .0 .0)) (omega (arith, w .0 .1)))
+test-allowed (suc (suc (suc zero))) l h e = ⊎-elim (form-regions false l) (form-regions true l) (or-cases (hasForm false l) (hasForm true l) e)
 test-allowed (suc (suc (suc (suc zero)))) l h e = exact 4 10 l gate-10 e
 test-allowed (suc (suc (suc (suc (suc zero))))) l h e = exact 5 10 l subck-10 e
 test-allowed (suc (suc (suc (suc (suc (suc zero)))))) l h e = exact 6 12 l shutter-12 e
@@ -145,11 +149,37 @@ says-allowed k l h = (test-allowed k l h, allowed-test k l)
 -- ---- values
 
 module _ (b : List ℕ) where
-  says-region : (i : ℕ) → Says (all (regionFits b i)) (RegionFits b i)
-  says-region i = (
-    (λ e. let w = passed (regionFits b i) e in omega (arith, leb-true)),
-    λ w. all-passed (regionFits b i) (omega (arith, le-leb)),
+  says-region : (head i : ℕ) → Says (all (regionFits head b i)) (RegionFits head b i)
+  says-region head i = (
+    (λ e. let w = passed (regionFits head b i) e in omega (arith, leb-true)),
+    λ w. all-passed (regionFits head b i) (omega (arith, le-leb)),
   )
+
+  -- a field's body in a form
+  abbrev FieldFits : Bool → Type 0
+  FieldFits two =
+      (headLength two + regionLength * countFrom (headLength two) b ≡ length b) × FieldRanged (fieldWith two b)
+      × ((i : ℕ) → i < countFrom (headLength two) b → RegionFits (headLength two) b i)
+
+  says-field : (two : Bool) → Says (fitsWith two b) (FieldFits two)
+  unfolding fitsWith
+  says-field two =
+      let head = headLength two in
+      let n = countFrom head b in
+      let s = says-and (says-cons (fieldRange (fieldWith two b)) (says-eq (head + regionLength * n) (length b)) (field-says (fieldWith two b)))
+      (says-regions head n) in
+      ((λ e. let w = s .0 e in (w .0 .0, w .0 .1, w .1)), λ w. s .1 ((w .0, w .1), w .2))
+    where
+      says-regions : (head n : ℕ) → Says (all (chunks n (regionFits head b))) ((i : ℕ) → i < n → RegionFits head b i)
+      says-regions head n = (
+        (λ e i l. says-region head i .0 (all-chunks n (regionFits head b) e i l)),
+        λ w. chunks-all n (regionFits head b) (λ i l. says-region head i .1 (w i l)),
+      )
+
+  -- the length tells the form
+  form-of : (two : Bool) → FieldFits two → hasForm true (length b) ≡ two
+  unfolding fieldWith
+  form-of two w = ap (hasForm true) (sym (w .0)) ∙ form-told two (countFrom (headLength two) b) (w .1 .some-regions) (w .1 .most-regions)
 
   says-numbered : (n top : ℕ) (tests : List Bool) (A : Type 0) → Says (all tests) A → Says (all (leb n top ∷ tests)) ((n ≤ top) × A)
   unfolding all
@@ -182,29 +212,20 @@ module _ (b : List ℕ) where
   says-shutter = says-numbered (numberAt b 0) 1 (shutterRange (shutterFrom b)) _ (shutter-says (shutterFrom b))
 
   pub fits-test : (k : ℕ) → Fits b k → fits k b ≡ true
-  unfolding fits fieldFits subckFits
+  unfolding fits subckFits
   fits-test k (register-fits h l u) = says-register .1 (h, l, u)
   fits-test k (sequence-fits h w) = says-sequence .1 (h, w)
-  fits-test k (field-fits h w r) =
-      and-intro
-      (all-passed (eqb (headLength + regionLength * numberAt b 8) (length b) ∷ fieldRange (fieldFrom b))
-      (eq-eqb (headLength + regionLength * numberAt b 8) (length b) h, passed (fieldRange (fieldFrom b)) (field-says (fieldFrom b) .1 w)))
-      (chunks-all (numberAt b 8) (regionFits b) (λ i l. says-region i .1 (r i l)))
+  fits-test k (field-fits two h w r) = rw (form-of two (h, w, r)) (says-field two .1 (h, w, r))
   fits-test k (gate-fits h w) = says-gate .1 (h, w)
   fits-test k (subck-fits w) = subck-says (subckFrom b) .1 w
   fits-test k (shutter-fits h w) = says-shutter .1 (h, w)
 
   test-fits : (k : ℕ) → Known k → fits k b ≡ true → Fits b k
-  unfolding fits fieldFits subckFits
+  unfolding fits subckFits
   test-fits zero h e = absurd (omega arith)
   test-fits (suc zero) h e = let w = says-register .0 e in register-fits (w .0) (w .1) (w .2)
   test-fits (suc (suc zero)) h e = let w = says-sequence .0 e in sequence-fits (w .0) (w .1)
-  test-fits (suc (suc (suc zero))) h e =
-      let tests = eqb (headLength + regionLength * numberAt b 8) (length b) ∷ fieldRange (fieldFrom b) in
-      let w = passed tests (and-left (all tests) _ e) in
-      let r = and-right (all tests) _ e in
-      field-fits (eqb-true _ _ (w .0)) (field-says (fieldFrom b) .0 (all-passed (fieldRange (fieldFrom b)) (w .1)))
-      (λ i l. says-region i .0 (all-chunks (numberAt b 8) (regionFits b) r i l))
+  test-fits (suc (suc (suc zero))) h e = let w = says-field (hasForm true (length b)) .0 e in field-fits _ (w .0) (w .1) (w .2)
   test-fits (suc (suc (suc (suc zero)))) h e = let w = says-gate .0 e in gate-fits (w .0) (w .1)
   test-fits (suc (suc (suc (suc (suc zero))))) h e = subck-fits (subck-says (subckFrom b) .0 e)
   test-fits (suc (suc (suc (suc (suc (suc zero)))))) h e = let w = says-shutter .0 e in shutter-fits (w .0) (w .1)

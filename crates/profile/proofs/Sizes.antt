@@ -1,4 +1,4 @@
--- A written script's length: at most 1,312 bytes, and at least 998 where the check accepts the profile.
+-- A written script's length: at most 1,314 bytes, and at least 998 where the check accepts the profile.
 -- The registers take 960; an accepted profile has a field of at least one region, whose sequence is present.
 -- Assumes nothing.
 use mathlib.Core.Path.{_≡_, refl}
@@ -10,7 +10,7 @@ use borrow.Author.Tests.{leb-true}
 use lib.ListN.{length, getD, length-append}
 use Rattle.profile.specs.Lists.{chunks}
 use Rattle.profile.specs.Values.{emptySequence, emptyGate, emptyShutter, accepted, refused}
-use Rattle.profile.specs.Geometry.{regionAt}
+use Rattle.profile.specs.Geometry.{regionAt, hasSecondLine}
 use Rattle.profile.specs.Ranges.{regionRange}
 use Rattle.profile.specs.Rules.{checkProfile}
 use Rattle.profile.specs.Writing.{
@@ -34,6 +34,7 @@ use Rattle.profile.specs.declared.Profile.{Profile}
 use Rattle.profile.proofs.Laws.{cond-case, passed, length-chunks, length-chunks-le, chunk-room}
 use Rattle.profile.proofs.Checked.{check-range}
 use Rattle.profile.proofs.Accepted.{accepted-exactly, accepted-field}
+use Rattle.profile.proofs.Forms.{head-most, head-least}
 use Rattle.profile.proofs.Stores.{length-field}
 use Rattle.profile.proofs.Items.{items, field-present, field-count, region-present}
 
@@ -74,7 +75,7 @@ script-high p =
       arith,
       length-script p,
       items-le 10 18 (λ s. s .present) sequenceRecord emptySequence (t .sequences) (λ k s. omega arith),
-      chosen-le (p .field .present) (fieldRecord (p .field)) 56 (omega (arith, length-field (p .field))),
+      chosen-le (p .field .present) (fieldRecord (p .field)) 58 (omega (arith, length-field (p .field), head-most (hasSecondLine (p .field)))),
       items-le 5 14 (λ g. g .present) gateRecord emptyGate (t .gates) (λ k g. omega arith),
       chosen-le (t .subck .present) (subckRecord (t .subck)) 14 (omega arith),
       items-le 2 16 (λ s. s .present) shutterRecord emptyShutter (t .shutters) (λ k s. omega arith),
@@ -88,7 +89,7 @@ sequence-written ss k h e =
     omega (arith, chunk-room k 10 (sequenceChunk ss) h)
 
 field-written : (f : Field) → f .present ≡ true → 1 ≤ f .count → 20 ≤ length (fieldChunk f)
-field-written f e h = rw e (omega (arith, length-field f))
+field-written f e h = rw e (omega (arith, length-field f, head-least (hasSecondLine f)))
 
 pub script-low : (p : Profile) → checkProfile p ≡ accepted → 998 ≤ length (writeScript p)
 script-low p e =

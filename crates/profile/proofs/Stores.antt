@@ -12,7 +12,7 @@ use lib.ListN.{length, getD, take, set, length-append}
 use lib.Seq.{sets, sets-eq, length-sets, take-suc, take-all}
 use Rattle.profile.specs.Lists.{chunks, over}
 use Rattle.profile.specs.Bytes.{twoBytes}
-use Rattle.profile.specs.Geometry.{regionCount}
+use Rattle.profile.specs.Geometry.{regionCount, hasSecondLine}
 use Rattle.profile.specs.Script.{kinds, headLength, regionLength}
 use Rattle.profile.specs.Writing.{
   registerChunk,
@@ -29,7 +29,7 @@ use Rattle.profile.specs.Writing.{
 }
 use Rattle.profile.specs.declared.Field.{Field}
 use Rattle.profile.specs.declared.Profile.{Profile}
-use Rattle.profile.proofs.Laws.{chunks-none, chunks-more, chunk-room, length-chunks}
+use Rattle.profile.proofs.Laws.{by-cases, chunks-none, chunks-more, chunk-room, length-chunks}
 
 -- a run of stores right after a run of stores
 pub sets-more : {A : Type 0} (l vs ws : List A) (i k : ℕ) → k ≡ i + length vs → sets (sets l i vs) k ws ≡ sets l i (vs ++ ws)
@@ -141,21 +141,44 @@ pub ruleset counting = (counted-none, counted-more, counted-all, counted-most, l
 
 -- ---- the field
 
--- its body with n regions: its head, then the regions
-pub length-body : (f : Field) (n : ℕ) → length (fieldBody f n) ≡ headLength + regionLength * n
-length-body f n = omega (arith, length-chunks regionLength n (regionBytes f) (λ i. refl))
+-- the bytes before its regions, and the form in which it is written
+abbrev pub headBytes : Field → ℕ
+headBytes f = headLength (hasSecondLine f)
 
-pub length-field : (f : Field) → length (fieldRecord f) ≡ 4 + (headLength + regionLength * regionCount f)
+pub length-head : (f : Field) → length (fieldHead f) ≡ headBytes f
+length-head f = by-cases (hasSecondLine f) (λ e. rw e) (λ e. rw e)
+
+-- its body with n regions: its head, then the regions
+pub length-body : (f : Field) (n : ℕ) → length (fieldBody f n) ≡ headBytes f + regionLength * n
+length-body f n =
+    let l = length-append (fieldHead f) (chunks n (regionBytes f)) in
+    omega (arith, length-head f, length-chunks regionLength n (regionBytes f) (λ i. refl))
+
+pub length-field : (f : Field) → length (fieldRecord f) ≡ 4 + (headBytes f + regionLength * regionCount f)
 length-field f = omega (arith, length-body f (regionCount f))
 
--- its record: its seven numbers, then its regions
-pub sets-field : (f : Field) (l a b : List ℕ) (at n : ℕ) → n ≡ regionCount f
-    → a ≡ sets l at (twoBytes ((headLength + regionLength * n) ∷ 3 ∷ f .lines ∷ f .last ∷ f .gate ∷ f .second ∷ f .count ∷ []))
-    → b ≡ sets a (at + 4 + headLength) (chunks n (regionBytes f))
+-- its record's header and head
+abbrev pub headWritten : Field → ℕ → List ℕ
+headWritten f n = twoBytes ((headBytes f + regionLength * n) ∷ 3 ∷ []) ++ fieldHead f
+
+-- in numbers, by its form
+module _ (f : Field) (n head : ℕ) (e : head ≡ headBytes f) where
+  pub head-two : hasSecondLine f ≡ true
+      → twoBytes ((head + regionLength * n) ∷ 3 ∷ f .lines ∷ f .last ∷ f .gate ∷ f .gate2 ∷ f .second ∷ f .count ∷ []) ≡ headWritten f n
+  head-two h = rw (e, h)
+
+  pub head-one : hasSecondLine f ≡ false
+      → twoBytes ((head + regionLength * n) ∷ 3 ∷ f .lines ∷ f .last ∷ f .gate ∷ f .second ∷ f .count ∷ []) ≡ headWritten f n
+  head-one h = rw (e, h)
+
+-- its record: the head, then its regions
+pub sets-field : (f : Field) (l a b : List ℕ) (at from n : ℕ) → n ≡ regionCount f → from ≡ at + (4 + headBytes f)
+    → a ≡ sets l at (headWritten f n)
+    → b ≡ sets a from (chunks n (regionBytes f))
     → b ≡ sets l at (fieldRecord f)
-sets-field f l a b at n e ea eb =
-    let head = twoBytes ((headLength + regionLength * n) ∷ 3 ∷ []) ++ fieldHead f in
-    rw (length-body f (regionCount f), ← e) (eb ∙ rw ea (sets-more l head (chunks n (regionBytes f)) at (at + 4 + headLength) (omega arith)))
+sets-field f l a b at from n e ef ea eb =
+    rw (length-body f (regionCount f), ← e)
+    (eb ∙ rw ea (sets-more l (headWritten f n) (chunks n (regionBytes f)) at from (omega (arith, length-head f))))
 
 -- ---- the script
 

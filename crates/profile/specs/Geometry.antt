@@ -2,12 +2,12 @@
 -- Assumes nothing.
 use Prim.Native.Nat.{ℕ, _+_, _-_, _*_, _%_, _<_, min}
 use mathlib.Core.Path.{_≡_}
-use mathlib.Core.List.{List, [], _∷_}
-use mathlib.Core.Bool.{Bool, cond, _&&_}
+use mathlib.Core.List.{List, [], _∷_, map}
+use mathlib.Core.Bool.{Bool, cond, not, _&&_}
 use lib.ListN.{getD}
 use lib.Dec.{ltb, leb, eqb}
-use Rattle.profile.specs.Lists.{sum, lastStart}
-use Rattle.profile.specs.Values.{emptyRegion, emptySequence, emptyGate, emptyShutter}
+use Rattle.profile.specs.Lists.{least, sum, lastStart}
+use Rattle.profile.specs.Values.{none, emptyRegion, emptySequence, emptyGate, emptyShutter}
 use Rattle.profile.specs.Patterns.{patternOf}
 use Rattle.profile.specs.declared.Region.{Region}
 use Rattle.profile.specs.declared.Sequence.{Sequence}
@@ -93,6 +93,14 @@ hasPixel t f line pixel = ltb line (f .lines) && ltb pixel (lineLength t f line)
 abbrev pub repetitions : Sequence → ℕ → ℕ
 repetitions s line = cond (eqb (line % 2) 0) (s .odd) (s .even)
 
--- the lines on which gates and the second pattern act; SUBCK counts from the first of them
+-- whether the field has a second gate line: "65,535 for none"
+abbrev pub hasSecondLine : Field → Bool
+hasSecondLine f = not (eqb (f .gate2) none)
+
+-- the lines on which gates and the second pattern act, one or two, in the order in which they are named; SUBCK counts from the first of them
 abbrev pub gateLines : Field → List ℕ
-gateLines f = f .gate ∷ []
+gateLines f = f .gate ∷ cond (hasSecondLine f) (f .gate2 ∷ []) []
+
+-- the length of the shortest gate line
+unfoldable pub gateLength : Tables → Field → ℕ
+gateLength t f = least (map (lineLength t f) (gateLines f))

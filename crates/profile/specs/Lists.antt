@@ -1,9 +1,9 @@
--- Lists made chunk by chunk, a claim of each element, tests under one `all`, sums over a run of numbers, and the last start at or below a number.
+-- Lists made chunk by chunk, a claim of each element, tests under one `all`, numbers that differ, the least of a list, sums over a run of numbers, and the last start at or below a number.
 -- Assumes nothing.
-use Prim.Native.Nat.{ℕ, zero, suc, _+_}
-use mathlib.Core.List.{List, [], _∷_, _++_}
-use mathlib.Core.Bool.{Bool, true, false, cond}
-use lib.Dec.{leb}
+use Prim.Native.Nat.{ℕ, zero, suc, _+_, min}
+use mathlib.Core.List.{List, [], _∷_, _++_, map}
+use mathlib.Core.Bool.{Bool, true, false, cond, not, _&&_}
+use lib.Dec.{leb, eqb}
 use lib.ListN.{length, drop}
 
 -- a claim of each element
@@ -15,6 +15,17 @@ Each P (x ∷ xs) = P x × Each P xs
 unfoldable pub all : List Bool → Bool
 all [] = true
 all (b ∷ bs) = cond b (all bs) false
+
+-- whether no number of a list stands in it twice
+unfoldable pub distinct : List ℕ → Bool
+distinct [] = true
+distinct (x ∷ xs) = all (map (λ (y : ℕ). not (eqb x y)) xs) && distinct xs
+
+-- the least number of a list; 0 of an empty one
+unfoldable pub least : List ℕ → ℕ
+least [] = 0
+least (x ∷ []) = x
+least (x ∷ y ∷ ys) = min x (least (y ∷ ys))
 
 -- the chunks f 0, f 1, .., f (n - 1), one after the other
 unfoldable pub chunks : {A : Type 0} → ℕ → (ℕ → List A) → List A

@@ -1,4 +1,4 @@
--- The ranges and the rules once more, as propositions in document 01's own words (10 in 02's): its table "Numbers of refusal", 5 to 17, as one row
+-- The ranges and the rules once more, as propositions in document 01's own words (10, 14 and 15 in 02's): its table "Numbers of refusal", 5 to 17, as one row
 -- a number, with the verdicts that name it and its sentence, and the order of the verdicts. That a profile is accepted exactly where every row holds, and
 -- is refused with the verdict of the first that does not, is a theorem (proofs/Accepted.antt), so that no rule can be missing from the list of
 -- tests (specs/Rules.antt), and none can have another number, place, output, toggle or turn there.
@@ -8,10 +8,10 @@ use mathlib.Core.Path.{_≡_}
 use mathlib.Core.Logic.{_⊎_}
 use mathlib.Core.List.{List, [], _∷_}
 use mathlib.Core.Bool.{Bool, true, false, cond, _&&_}
-use lib.ListN.{getD}
+use lib.ListN.{length, getD}
 use lib.Dec.{ltb, leb}
 use Rattle.profile.specs.Lists.{Each}
-use Rattle.profile.specs.Values.{emptyRegion, emptySequence, emptyGate, emptySubck, emptyShutter, refused}
+use Rattle.profile.specs.Values.{none, emptyRegion, emptySequence, emptyGate, emptySubck, emptyShutter, refused}
 use Rattle.profile.specs.Layout.{halfPart}
 use Rattle.profile.specs.Patterns.{rowOf}
 use Rattle.profile.specs.Geometry.{
@@ -61,7 +61,8 @@ pub record SequenceRanged (s : Sequence) : Type 0 where
   pub mask : s .mask ≤ 3
 
 pub record FieldRanged (f : Field) : Type 0 where
-  pub second : (f .second ≡ 65535) ⊎ (f .second ≤ 9)
+  pub second-line : (f .gate2 ≡ none) ⊎ (f .gate2 ≤ 4094)
+  pub second : (f .second ≡ none) ⊎ (f .second ≤ 9)
   pub some-lines : 1 ≤ f .lines
   pub most-lines : f .lines ≤ 4095
   pub shortest : 1 ≤ f .last
@@ -102,7 +103,7 @@ Given present Carried Empty = (present ≡ true → Carried) × (present ≡ fal
 -- a field and its regions: a region is present where its number is below n
 pub record FieldIn (f : Field) : Type 0 where
   pub head : Given (f .present) (FieldRanged f)
-      ((f .lines ≡ 0) × (f .last ≡ 0) × (f .gate ≡ 0) × (f .second ≡ 0) × (f .count ≡ 0))
+      ((f .lines ≡ 0) × (f .last ≡ 0) × (f .gate ≡ 0) × (f .gate2 ≡ 0) × (f .second ≡ 0) × (f .count ≡ 0))
   pub regions : (i : ℕ) → i < 7 → Given (ltb i (f .count)) (RegionRanged (regionAt f i)) (regionAt f i ≡ emptyRegion)
 
 abbrev pub SequenceIn : Sequence → Type 0
@@ -203,10 +204,15 @@ Shuts t f s =
 abbrev pub Starts : Field → ℕ → Type 0
 Starts f i = (firstLine f i < f .lines) × (i ≡ 0 → firstLine f i ≡ 0) × ((i ≡ 0 → ⊥) → firstLine f (i - 1) < firstLine f i)
 
--- 14: "the gate line is below the line count", and the second pattern, on each gate line
-abbrev pub Transfers : Tables → Field → Type 0
-Transfers t f =
-    Each (λ g. g < f .lines) (gateLines f) × ((f .second ≡ 65535 → ⊥) → Each (Seconds t f (secondOf t f)) (gateLines f))
+-- two numbers of a list, at any two places, differ
+abbrev pub Differ : List ℕ → Type 0
+Differ l = (i j : ℕ) → i < j → j < length l → getD l i 0 ≡ getD l j 0 → ⊥
+
+-- 14: the gate lines "must differ and lie in the field", and the second pattern, on each gate line
+pub record Transfers (t : Tables) (f : Field) : Type 0 where
+  pub inside : Each (λ g. g < f .lines) (gateLines f)
+  pub differ : Differ (gateLines f)
+  pub second : (f .second ≡ none → ⊥) → Each (Seconds t f (secondOf t f)) (gateLines f)
 
 -- 15: "a gate that is on has toggle 1 below toggle 2 below the gate line's length"
 abbrev pub Pulses : Gate → ℕ → Type 0

@@ -6,7 +6,7 @@ use mathlib.Core.Bool.{Bool, cond, _&&_, _||_}
 use lib.ListN.{getD}
 use lib.Dec.{ltb, leb, eqb}
 use Rattle.profile.specs.Lists.{all, chunks}
-use Rattle.profile.specs.Values.{emptySequence, emptyGate, emptyShutter}
+use Rattle.profile.specs.Values.{none, emptySequence, emptyGate, emptyShutter}
 use Rattle.profile.specs.Layout.{halfLimit}
 use Rattle.profile.specs.Patterns.{isPlain}
 use Rattle.profile.specs.Geometry.{regionAt}
@@ -30,10 +30,12 @@ sequenceRange s =
     ∷ leb (s .mask) 3
     ∷ []
 
--- Kind 3: "lines 1..4095, last-line length 1..4095, gate line 0..4094, second pattern 0..9 or 65,535 for none, n = 1..7"
+-- Kind 3: "lines 1..4095, last-line length 1..4095, gate line 0..4094, second pattern 0..9 or 65,535 for none, n = 1..7"; second gate line
+-- "0..4094, or 65,535 for none"
 abbrev pub fieldRange : Field → List Bool
 fieldRange f =
-    (eqb (f .second) 65535 || leb (f .second) 9)
+    (eqb (f .gate2) none || leb (f .gate2) 4094)
+    ∷ (eqb (f .second) none || leb (f .second) 9)
     ∷ leb 1 (f .lines)
     ∷ leb (f .lines) 4095
     ∷ leb 1 (f .last)
@@ -107,7 +109,7 @@ regionIn f i =
 -- a field's numbers before its regions
 unfoldable pub headIn : Field → Bool
 headIn f =
-    itemIn (f .present) (fieldRange f) (zeros (f .lines ∷ f .last ∷ f .gate ∷ f .second ∷ f .count ∷ []))
+    itemIn (f .present) (fieldRange f) (zeros (f .lines ∷ f .last ∷ f .gate ∷ f .gate2 ∷ f .second ∷ f .count ∷ []))
 
 -- the tests of each array's items
 abbrev pub halfTests : List ℕ → ℕ → List Bool

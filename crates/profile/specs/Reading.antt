@@ -8,14 +8,16 @@ use lib.ListN.{length, drop, replicate}
 use lib.Dec.{ltb}
 use Rattle.profile.specs.Lists.{all, chunks}
 use Rattle.profile.specs.Bytes.{numberAt}
-use Rattle.profile.specs.Values.{emptyRegion, setTables, setField}
+use Rattle.profile.specs.Values.{none, emptyRegion, setTables, setField}
 use Rattle.profile.specs.Script.{
+  headLength,
   registerFits,
   withRegister,
   sequenceFits,
   withSequence,
   regionFrom,
   regionsFrom,
+  countFrom,
   fieldFrom,
   regionFits,
   fieldFits,
@@ -63,25 +65,26 @@ abbrev pub shutterAnswer : List ℕ → Profile → BodyAnswer
 shutterAnswer b p = bodyAnswer (shutterFits b) (setTables (withShutter b (p .tables)) p) p
 
 -- the numbers of a field's body before its regions
-abbrev pub headFrom : List ℕ → Field
-headFrom b =
+abbrev pub headFrom : Bool → List ℕ → Field
+headFrom two b =
     record {
       present = true;
       lines = numberAt b 0;
       last = numberAt b 2;
       gate = numberAt b 4;
-      second = numberAt b 6;
-      count = numberAt b 8;
+      gate2 = cond two (numberAt b 6) none;
+      second = numberAt b (headLength two - 4);
+      count = countFrom (headLength two) b;
       regions = replicate 7 emptyRegion;
     }
 
--- region i of a body, and the first n of seven
-abbrev pub regionAnswer : List ℕ → ℕ → RegionAnswer
-regionAnswer b i = record { fits = all (regionFits b i); region = regionFrom b i }
+-- region i of a body, after a head of so many bytes, and the first n of seven
+abbrev pub regionAnswer : ℕ → List ℕ → ℕ → RegionAnswer
+regionAnswer head b i = record { fits = all (regionFits head b i); region = regionFrom head b i }
 
-abbrev pub regionsAnswer : List ℕ → ℕ → RegionsAnswer
-regionsAnswer b n =
-    record { fits = all (chunks n (regionFits b)); regions = regionsFrom b n ++ replicate (7 - n) emptyRegion }
+abbrev pub regionsAnswer : ℕ → List ℕ → ℕ → RegionsAnswer
+regionsAnswer head b n =
+    record { fits = all (chunks n (regionFits head b)); regions = regionsFrom head b n ++ replicate (7 - n) emptyRegion }
 
 -- a record that is refused before its values are read
 abbrev pub unfound : ℕ → Found

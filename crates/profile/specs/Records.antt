@@ -4,6 +4,7 @@
 -- Assumes nothing.
 use Prim.Native.Nat.{ℕ, _+_, _*_, _≤_, _<_}
 use mathlib.Core.Path.{_≡_}
+use mathlib.Core.Bool.{Bool}
 use mathlib.Core.List.{List, [], _∷_, _++_}
 use lib.ListN.{length, getD}
 use Rattle.profile.specs.Lists.{Each}
@@ -19,7 +20,8 @@ use Rattle.profile.specs.Script.{
   highFrom,
   sequenceFrom,
   regionStart,
-  fieldFrom,
+  countFrom,
+  fieldWith,
   gateFrom,
   subckFrom,
   shutterFrom,
@@ -31,29 +33,29 @@ use Rattle.profile.specs.declared.Profile.{Profile}
 use Rattle.profile.specs.declared.Verdict.{Verdict}
 use Rattle.profile.specs.declared.ReadAnswer.{ReadAnswer}
 
--- the kinds, and the body lengths of each
+-- the kinds, and the body lengths of each; a field's by its form, whether it has a second gate line
 abbrev pub Known : ℕ → Type 0
 Known kind = (1 ≤ kind) × (kind ≤ kinds)
 
 pub data Allowed : ℕ → ℕ → Type 0 where
   register-4 : Allowed 1 4
   sequence-14 : Allowed 2 14
-  field-6n : (n : ℕ) → 1 ≤ n → n ≤ 7 → Allowed 3 (headLength + regionLength * n)
+  field-6n : (two : Bool) (n : ℕ) → 1 ≤ n → n ≤ 7 → Allowed 3 (headLength two + regionLength * n)
   gate-10 : Allowed 4 10
   subck-10 : Allowed 5 10
   shutter-12 : Allowed 6 12
 
 -- region i of a field's body: "first line 0..4094, sequence 0..9, mode 0 plain, 1 sweep, 2 multiplier"
-abbrev pub RegionFits : List ℕ → ℕ → Type 0
-RegionFits b i =
-    (numberAt b (regionStart i) ≤ 4094) × (numberAt b (regionStart i + 2) ≤ 9) × (numberAt b (regionStart i + 4) ≤ 2)
+abbrev pub RegionFits : ℕ → List ℕ → ℕ → Type 0
+RegionFits head b i =
+    (numberAt b (regionStart head i) ≤ 4094) × (numberAt b (regionStart head i + 2) ≤ 9) × (numberAt b (regionStart head i + 4) ≤ 2)
 
--- the values that a body of each kind can have
+-- the values that a body of each kind can have; of a field, in the form that has its length
 pub data Fits (b : List ℕ) : ℕ → Type 0 where
   register-fits : getD b 0 0 ≤ 0x77 → HalfRanged (2 * getD b 0 0) (lowFrom b) → HalfRanged (2 * getD b 0 0 + 1) (highFrom b) → Fits b 1
   sequence-fits : numberAt b 0 ≤ 9 → SequenceRanged (sequenceFrom b) → Fits b 2
-  field-fits : headLength + regionLength * numberAt b 8 ≡ length b → FieldRanged (fieldFrom b)
-      → ((i : ℕ) → i < numberAt b 8 → RegionFits b i) → Fits b 3
+  field-fits : (two : Bool) → headLength two + regionLength * countFrom (headLength two) b ≡ length b → FieldRanged (fieldWith two b)
+      → ((i : ℕ) → i < countFrom (headLength two) b → RegionFits (headLength two) b i) → Fits b 3
   gate-fits : numberAt b 0 ≤ 4 → GateRanged (gateFrom b) → Fits b 4
   subck-fits : SubckRanged (subckFrom b) → Fits b 5
   shutter-fits : numberAt b 0 ≤ 1 → ShutterRanged (shutterFrom b) → Fits b 6

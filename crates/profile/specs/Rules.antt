@@ -4,8 +4,8 @@ use Prim.Native.Nat.{ℕ, _+_, _-_, _*_, _/_, _%_, _^_}
 use mathlib.Core.List.{List, [], _∷_, _++_, map, flatMap}
 use mathlib.Core.Bool.{Bool, true, cond, not, _&&_, _||_}
 use lib.Dec.{ltb, leb, eqb}
-use Rattle.profile.specs.Lists.{all, chunks}
-use Rattle.profile.specs.Values.{accepted, refused, refusedToggle}
+use Rattle.profile.specs.Lists.{all, distinct, chunks}
+use Rattle.profile.specs.Values.{none, accepted, refused, refusedToggle}
 use Rattle.profile.specs.Patterns.{patternOf, rowOf, isPlain, not4095, used, inOrder, toggleFault, highestUsed}
 use Rattle.profile.specs.Geometry.{
   regionCount,
@@ -105,7 +105,7 @@ secondRight t f a g =
 
 -- whether the field has a second pattern: "65,535 for none"
 abbrev pub hasSecond : Field → Bool
-hasSecond f = not (eqb (f .second) 65535)
+hasSecond f = not (eqb (f .second) none)
 
 abbrev pub secondOf : Tables → Field → Pattern
 secondOf t f = patternOf (t .registers) (f .second)
@@ -167,10 +167,14 @@ entriesAt i m s a size =
 abbrev pub regionEntries : Tables → Field → ℕ → List Entry
 regionEntries t f i = entriesAt i (regionAt f i .mode) (sequenceAt t f i) (patternAt t f i) (regionSize t f i)
 
--- "then 14": every gate line is below the line count, and the second pattern is right on each
+-- 14: the gate lines "must differ and lie in the field"
+unfoldable pub linesRight : Field → Bool
+linesRight f = all (map (λ (g : ℕ). ltb g (f .lines)) (gateLines f)) && distinct (gateLines f)
+
+-- "then 14": the gate lines are right, and the second pattern is right on each
 unfoldable pub lineEntries : Tables → Field → List Entry
 lineEntries t f =
-    rule 14 0 (all (map (λ (g : ℕ). ltb g (f .lines)) (gateLines f)))
+    rule 14 0 (linesRight f)
     ∷ rule 14 0 (not (hasSecond f) || all (map (secondRight t f (secondOf t f)) (gateLines f)))
     ∷ []
 

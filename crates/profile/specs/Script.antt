@@ -2,12 +2,13 @@
 -- Assumes nothing.
 use Prim.Native.Nat.{ℕ, zero, suc, _+_, _-_, _*_, _/_, _%_}
 use mathlib.Core.List.{List, [], _∷_, _++_}
-use mathlib.Core.Bool.{Bool, true, cond, not, _&&_}
+use mathlib.Core.Bool.{Bool, true, false, cond, not, _&&_, _||_}
 use lib.ListN.{length, getD, take, drop, set, replicate}
 use lib.Dec.{ltb, leb, eqb}
 use Rattle.profile.specs.Lists.{all, chunks}
 use Rattle.profile.specs.Bytes.{numberAt, dataAt}
 use Rattle.profile.specs.Values.{
+  none,
   modeOf,
   emptyRegion,
   emptyProfile,
@@ -40,9 +41,9 @@ use Rattle.profile.specs.declared.ReadAnswer.{ReadAnswer}
 abbrev pub kinds : ℕ
 kinds = 6
 
--- "Kind 3, field, 10 + 6n bytes": the numbers before the regions, and each region
-abbrev pub headLength : ℕ
-headLength = 10
+-- Kind 3, field: the numbers before the regions, "body 12 + 6n" with a second gate line among them, "the old 10 + 6n form" without; and each region
+abbrev pub headLength : Bool → ℕ
+headLength two = cond two 12 10
 
 abbrev pub regionLength : ℕ
 regionLength = 6
@@ -90,44 +91,66 @@ sequenceFits b = all (leb (numberAt b 0) 9 ∷ sequenceRange (sequenceFrom b))
 abbrev pub withSequence : List ℕ → Tables → Tables
 withSequence b t = setSequences (set (t .sequences) (numberAt b 0) (sequenceFrom b)) t
 
--- Kind 3, field: "lines, last-line length, gate line, second pattern, n, then n regions: first line, sequence, mode"
+-- Kind 3, field, in two forms: "lines, last-line length, gate line, second pattern, n, then n regions: first line, sequence, mode", and with "a
+-- second gate line after the first". Which it is follows from the length: 10 + 6n and 12 + 6n never meet.
 
--- where region i stands in the body: after the head and the i regions before it
-abbrev pub regionStart : ℕ → ℕ
-regionStart i = headLength + regionLength * i
+-- a body of this length has the form with, or without, a second gate line, "n = 1..7"
+unfoldable pub hasForm : Bool → ℕ → Bool
+hasForm two len =
+    leb (headLength two + regionLength * 1) len
+    && leb len (headLength two + regionLength * 7)
+    && eqb ((len - headLength two) % regionLength) 0
 
-abbrev pub regionFrom : List ℕ → ℕ → Region
-regionFrom b i =
+-- where region i stands in a body: after the head, of so many bytes, and the i regions before it
+abbrev pub regionStart : ℕ → ℕ → ℕ
+regionStart head i = head + regionLength * i
+
+abbrev pub regionFrom : ℕ → List ℕ → ℕ → Region
+regionFrom head b i =
     record {
-      first = numberAt b (regionStart i);
-      sequence = numberAt b (regionStart i + 2);
-      mode = modeOf (numberAt b (regionStart i + 4));
+      first = numberAt b (regionStart head i);
+      sequence = numberAt b (regionStart head i + 2);
+      mode = modeOf (numberAt b (regionStart head i + 4));
     }
 
-abbrev pub regionsFrom : List ℕ → ℕ → List Region
-regionsFrom b n = chunks n (λ i. regionFrom b i ∷ [])
+abbrev pub regionsFrom : ℕ → List ℕ → ℕ → List Region
+regionsFrom head b n = chunks n (λ i. regionFrom head b i ∷ [])
 
-unfoldable pub fieldFrom : List ℕ → Field
-fieldFrom b =
+-- the head's last two numbers: "second pattern, n"
+abbrev pub countFrom : ℕ → List ℕ → ℕ
+countFrom head b = numberAt b (head - 2)
+
+-- a field of either form: one without a second gate line "means none"
+unfoldable pub fieldWith : Bool → List ℕ → Field
+fieldWith two b =
     record {
       present = true;
       lines = numberAt b 0;
       last = numberAt b 2;
       gate = numberAt b 4;
-      second = numberAt b 6;
-      count = numberAt b 8;
-      regions = regionsFrom b (numberAt b 8) ++ replicate (7 - numberAt b 8) emptyRegion;
+      gate2 = cond two (numberAt b 6) none;
+      second = numberAt b (headLength two - 4);
+      count = countFrom (headLength two) b;
+      regions =
+          regionsFrom (headLength two) b (countFrom (headLength two) b)
+          ++ replicate (7 - countFrom (headLength two) b) emptyRegion;
     }
 
+abbrev pub fieldFrom : List ℕ → Field
+fieldFrom b = fieldWith (hasForm true (length b)) b
+
 -- the tests of region i of a body
-abbrev pub regionFits : List ℕ → ℕ → List Bool
-regionFits b i = leb (numberAt b (regionStart i + 4)) 2 ∷ regionRange (regionFrom b i)
+abbrev pub regionFits : ℕ → List ℕ → ℕ → List Bool
+regionFits head b i = leb (numberAt b (regionStart head i + 4)) 2 ∷ regionRange (regionFrom head b i)
 
 -- "An n that disagrees with the length is refusal 5."
-unfoldable pub fieldFits : List ℕ → Bool
-fieldFits b =
-    all (eqb (headLength + regionLength * numberAt b 8) (length b) ∷ fieldRange (fieldFrom b))
-    && all (chunks (numberAt b 8) (regionFits b))
+unfoldable pub fitsWith : Bool → List ℕ → Bool
+fitsWith two b =
+    all (eqb (headLength two + regionLength * countFrom (headLength two) b) (length b) ∷ fieldRange (fieldWith two b))
+    && all (chunks (countFrom (headLength two) b) (regionFits (headLength two) b))
+
+abbrev pub fieldFits : List ℕ → Bool
+fieldFits b = fitsWith (hasForm true (length b)) b
 
 -- Kind 4, gate: "number 0..4, on, start level, toggle 1, toggle 2"
 abbrev pub gateFrom : List ℕ → Gate
@@ -184,12 +207,9 @@ byKind kind a b c d e f =
 abbrev pub known : ℕ → Bool
 known kind = leb 1 kind && leb kind kinds
 
--- "Kind 3, field, 10 + 6n bytes, n = 1..7"
+-- "Kind 3, field, 10 + 6n bytes", and "body 12 + 6n"
 abbrev pub fieldLength : ℕ → Bool
-fieldLength len =
-    leb (headLength + regionLength * 1) len
-    && leb len (headLength + regionLength * 7)
-    && eqb ((len - headLength) % regionLength) 0
+fieldLength len = hasForm false len || hasForm true len
 
 -- the body lengths that a kind allows
 unfoldable pub allowed : ℕ → ℕ → Bool

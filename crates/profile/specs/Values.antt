@@ -1,4 +1,4 @@
--- The numbers of the modes, the empty profile ("nothing present, all zeros"), verdicts and the answer of a read.
+-- What stands for none, the numbers of the modes, the empty profile ("nothing present, all zeros"), verdicts and the answer of a read.
 -- Assumes nothing.
 use Prim.Native.Nat.{ℕ, _≤_}
 use mathlib.Core.Path.{_≡_}
@@ -19,6 +19,10 @@ use Rattle.profile.specs.declared.Tables.{Tables}
 use Rattle.profile.specs.declared.Profile.{Profile}
 use Rattle.profile.specs.declared.Verdict.{Verdict}
 use Rattle.profile.specs.declared.ReadAnswer.{ReadAnswer}
+
+-- "65,535 for none": of a second gate line and of a second pattern
+abbrev pub none : ℕ
+none = 65535
 
 -- "mode 0 plain, 1 sweep, 2 multiplier"
 abbrev pub modeNumber : Mode → ℕ
@@ -46,7 +50,7 @@ emptyShutter = record { present = false; active = 0; «on_line» = 0; «on_pixel
 
 unfoldable pub emptyField : Field
 emptyField =
-    record { present = false; lines = 0; last = 0; gate = 0; second = 0; count = 0; regions = replicate 7 emptyRegion }
+    record { present = false; lines = 0; last = 0; gate = 0; gate2 = 0; second = 0; count = 0; regions = replicate 7 emptyRegion }
 
 unfoldable pub emptyTables : Tables
 emptyTables =

@@ -8,7 +8,7 @@ use lib.Dec.{leb}
 use Rattle.profile.specs.Lists.{chunks, over}
 use Rattle.profile.specs.Bytes.{twoBytes, threeBytes, recordOf}
 use Rattle.profile.specs.Values.{modeNumber, accepted, refused, accepts, emptySequence, emptyGate, emptyShutter}
-use Rattle.profile.specs.Geometry.{regionCount, regionAt}
+use Rattle.profile.specs.Geometry.{regionCount, regionAt, gateLines}
 use Rattle.profile.specs.Rules.{checkProfile}
 use Rattle.profile.specs.declared.Sequence.{Sequence}
 use Rattle.profile.specs.declared.Field.{Field}
@@ -19,9 +19,9 @@ use Rattle.profile.specs.declared.Profile.{Profile}
 use Rattle.profile.specs.declared.Verdict.{Verdict}
 use Rattle.profile.specs.declared.Written.{Written}
 
--- "at most 1,312 bytes": every item present, and seven regions
+-- "its longest script becomes 1,314 bytes": every item present, two gate lines and seven regions
 abbrev pub longestScript : ℕ
-longestScript = 1312
+longestScript = 1314
 
 -- The body and the record of each item, by its kind, and what is written of it: its record where it is present, else nothing.
 
@@ -48,9 +48,10 @@ sequenceWritten k s = cond (s .present) (sequenceRecord k s) []
 abbrev pub sequenceChunk : List Sequence → ℕ → List ℕ
 sequenceChunk ss k = sequenceWritten k (getD ss k emptySequence)
 
--- Kind 3, field: "lines, last-line length, gate line, second pattern, n, then n regions: first line, sequence, mode"
+-- Kind 3, field: "lines, last-line length, gate line, second pattern, n, then n regions: first line, sequence, mode", "a second gate line after the
+-- first", and "the old form when there is no second gate line"
 abbrev pub fieldHead : Field → List ℕ
-fieldHead f = twoBytes (f .lines ∷ f .last ∷ f .gate ∷ f .second ∷ f .count ∷ [])
+fieldHead f = twoBytes (f .lines ∷ f .last ∷ gateLines f ++ f .second ∷ f .count ∷ [])
 
 abbrev pub regionBytes : Field → ℕ → List ℕ
 regionBytes f i = twoBytes (regionAt f i .first ∷ regionAt f i .sequence ∷ modeNumber (regionAt f i .mode) ∷ [])

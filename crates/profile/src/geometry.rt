@@ -5,12 +5,13 @@ use crate::Region;
 use crate::Sequence;
 use crate::Shutter;
 use crate::Tables;
+use crate::values::NONE;
 use crate::values::empty_gate;
 use crate::values::empty_region;
 use crate::values::empty_sequence;
 use crate::values::empty_shutter;
 ghost use mathlib.Core.Path.{_≡_};
-ghost use Prim.Native.Nat.{_<_, _≤_, _+_, _*_};
+ghost use Prim.Native.Nat.{_<_, _≤_, _+_, _*_, min};
 ghost use lib.Dec.{eqb};
 ghost use Rattle.profile.specs.Geometry.{
   regionCount,
@@ -28,6 +29,8 @@ ghost use Rattle.profile.specs.Geometry.{
   pixelCount,
   hasPixel,
   repetitions,
+  hasSecondLine,
+  gateLength,
 };
 
 // How many regions there are, at most seven.
@@ -141,11 +144,36 @@ pub fn length_in(tables: Tables, field: Field, i: usize, line: u64) -> u16
     sequence.length
 }
 
+// Whether the field has a second gate line.
+pub fn has_second_line(field: Field) -> bool
+    ensures { λ r. ⌜ r ≡ hasSecondLine field ⌝ }
+{
+    field.gate2 != NONE
+}
+
 // The length of a line.
 pub fn line_length(tables: Tables, field: Field, line: u64) -> u16
     ensures { λ r. ⌜ r ≡ lineLength tables field line ⌝ }
 {
     length_in(tables, field, region_of(field, line), line)
+}
+
+// The lower of two numbers.
+fn lower(a: u16, b: u16) -> u16
+    ensures { λ r. ⌜ r ≡ min a b ⌝ }
+{
+    if b < a { b } else { a }
+}
+
+// The length of the shortest gate line.
+pub fn gate_length(tables: Tables, field: Field) -> u16
+    ensures { λ r. ⌜ r ≡ gateLength tables field ⌝ }
+{
+    let first = line_length(tables, field, field.gate as u64);
+    if !has_second_line(field) {
+        return first;
+    }
+    lower(first, line_length(tables, field, field.gate2 as u64))
 }
 
 // n lines of one length, as far as they can be counted.

@@ -11,8 +11,10 @@ mod values;
 mod writing;
 
 pub use geometry::end_line;
+pub use geometry::gate_length;
 pub use geometry::gate_of;
 pub use geometry::has_pixel;
+pub use geometry::has_second_line;
 pub use geometry::length_in;
 pub use geometry::line_length;
 pub use geometry::pixel_count;
@@ -60,12 +62,14 @@ pub struct Sequence {
     pub mask: u16,
 }
 
-// `last` is the length of the last line, `second` the second pattern's number or 65,535.
+// `last` is the length of the last line, `gate` and `gate2` are the gate lines, `second` is the second pattern's number; of `gate2` and `second`
+// 65,535 is none. An absent field has 0 for each.
 pub struct Field {
     pub present: bool,
     pub lines: u16,
     pub last: u16,
     pub gate: u16,
+    pub gate2: u16,
     pub second: u16,
     pub count: u16,
     pub regions: [Region; 7],

@@ -5,6 +5,7 @@ use crate::Region;
 use crate::Sequence;
 use crate::Shutter;
 use crate::Subck;
+use crate::values::NONE;
 ghost use mathlib.Core.Path.{_≡_};
 ghost use Rattle.profile.specs.Lists.{all};
 ghost use Rattle.profile.specs.Ranges.{sequenceRange, fieldRange, regionRange, gateRange, subckRange, shutterRange};
@@ -25,7 +26,8 @@ pub(crate) fn sequence_in_range(s: Sequence) -> bool
 pub(crate) fn field_in_range(f: Field) -> bool
     ensures { λ r. ⌜ r ≡ all (fieldRange f) ⌝ }
 {
-    ((f.second == 65535) | (f.second <= 9))
+    ((f.gate2 == NONE) | (f.gate2 <= 4094))
+        & ((f.second == NONE) | (f.second <= 9))
         & (1 <= f.lines)
         & (f.lines <= 4095)
         & (1 <= f.last)

@@ -88,7 +88,12 @@ fn head_in(f: Field) -> bool
     if f.present {
         field_in_range(f)
     } else {
-        (f.lines == 0) & (f.last == 0) & (f.gate == 0) & (f.second == 0) & (f.count == 0)
+        (f.lines == 0)
+            & (f.last == 0)
+            & (f.gate == 0)
+            & (f.gate2 == 0)
+            & (f.second == 0)
+            & (f.count == 0)
     }
 }
 

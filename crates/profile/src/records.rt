@@ -20,18 +20,20 @@ use crate::limits::shutter_in_range;
 use crate::limits::subck_in_range;
 use crate::refuse;
 use crate::rules::judge;
+use crate::values::NONE;
 use crate::values::empty_region;
 use crate::values::mode_of;
 ghost use mathlib.Core.Path.{_≡_};
-ghost use mathlib.Core.Bool.{true, false};
+ghost use mathlib.Core.Bool.{true, false, cond};
 ghost use Prim.Native.Nat.{_+_, _*_, _<_, _≤_};
 ghost use lib.ListN.{length};
 ghost use Rattle.profile.specs.Bytes.{numberAt, dataAt};
-ghost use Rattle.profile.specs.Values.{emptyProfile, setTables, readAnswer};
+ghost use Rattle.profile.specs.Values.{none, emptyProfile, setTables, readAnswer};
 ghost use Rattle.profile.specs.Script.{
   headLength,
   regionLength,
   sequenceFrom,
+  hasForm,
   regionStart,
   gateFrom,
   subckFrom,
@@ -62,9 +64,6 @@ ghost use Rattle.profile.specs.Reading.{
 
 // The kinds are 1 to 6.
 const KINDS: u16 = 6;
-
-// The bytes of a field's body before its regions.
-pub(crate) const HEAD: usize = 10;
 
 // The bytes of a region.
 pub(crate) const REGION: usize = 6;
@@ -290,12 +289,31 @@ pub struct RegionsAnswer {
     pub regions: [Region; 7],
 }
 
-// Region i of a field's body, and whether its numbers are in range.
-fn region_from(body: &[u8], i: usize) -> RegionAnswer
-    requires { ⌜ regionStart (i + 1) ≤ length (now body) ⌝ }
-    ensures { λ r. ⌜ r ≡ regionAnswer (now (body .entry)) i ⌝ }
+// The bytes of a field's body before its regions, by whether a second gate line is among them.
+pub(crate) fn head_length(two: bool) -> usize
+    ensures { λ r. ⌜ r ≡ headLength two ⌝ }
+    ensures { λ r. ⌜ r ≤ 12 ⌝ }
 {
-    let at = HEAD + REGION * i;
+    if two { 12 } else { 10 }
+}
+
+// Whether a field's body of this length has the form with, or without, a second gate line.
+fn has_form(two: bool, length: usize) -> bool
+    ensures { λ r. ⌜ r ≡ hasForm two length ⌝ }
+{
+    let head = head_length(two);
+    if length < head + REGION {
+        return false;
+    }
+    (length <= head + REGION * 7) & ((length - head) % REGION == 0)
+}
+
+// Region i of a field's body, after a head of so many bytes, and whether its numbers are in range.
+fn region_from(body: &[u8], head: usize, i: usize) -> RegionAnswer
+    requires { ⌜ regionStart head (i + 1) ≤ length (now body) ⌝ }
+    ensures { λ r. ⌜ r ≡ regionAnswer head (now (body .entry)) i ⌝ }
+{
+    let at = head + REGION * i;
     let first = number_at(body, at);
     let sequence = number_at(body, at + 2);
     let number = number_at(body, at + 4);
@@ -311,16 +329,16 @@ fn region_from(body: &[u8], i: usize) -> RegionAnswer
 }
 
 // The first regions of a field's body.
-fn regions_from(body: &[u8], count: usize) -> RegionsAnswer
-    requires { ⌜ (headLength + regionLength * count ≤ length (now body)) × (count ≤ 7) ⌝ }
-    ensures { λ r. ⌜ r ≡ regionsAnswer (now (body .entry)) count ⌝ }
+fn regions_from(body: &[u8], head: usize, count: usize) -> RegionsAnswer
+    requires { ⌜ (head + regionLength * count ≤ length (now body)) × (count ≤ 7) ⌝ }
+    ensures { λ r. ⌜ r ≡ regionsAnswer head (now (body .entry)) count ⌝ }
 {
     let none = empty_region();
     let mut regions = [none; 7];
     let mut fits = true;
     let mut i: usize = 0;
     while i < count {
-        let given = region_from(body, i);
+        let given = region_from(body, head, i);
         let region = given.region;
         regions[i] = region;
         fits = fits & given.fits;
@@ -332,36 +350,48 @@ fn regions_from(body: &[u8], count: usize) -> RegionsAnswer
     }
 }
 
+// The second gate line, where the form has one.
+fn gate2_from(body: &[u8], two: bool) -> u16
+    requires { ⌜ headLength two ≤ length (now body) ⌝ }
+    ensures { λ r. ⌜ r ≡ cond two (numberAt (now (body .entry)) 6) none ⌝ }
+{
+    if two { number_at(body, 6) } else { NONE }
+}
+
 // The numbers before the regions.
-fn head_from(body: &[u8]) -> Field
-    requires { ⌜ headLength ≤ length (now body) ⌝ }
-    ensures { λ r. ⌜ r ≡ headFrom (now (body .entry)) ⌝ }
+fn head_from(body: &[u8], two: bool) -> Field
+    requires { ⌜ headLength two ≤ length (now body) ⌝ }
+    ensures { λ r. ⌜ r ≡ headFrom two (now (body .entry)) ⌝ }
 {
     let none = empty_region();
     let regions = [none; 7];
+    let head = head_length(two);
     Field {
         present: true,
         lines: number_at(body, 0),
         last: number_at(body, 2),
         gate: number_at(body, 4),
-        second: number_at(body, 6),
-        count: number_at(body, 8),
+        gate2: gate2_from(body, two),
+        second: number_at(body, head - 4),
+        count: number_at(body, head - 2),
         regions: regions,
     }
 }
 
 // Kind 3: the field, with as many regions as the body has room for.
 fn read_field(body: &[u8], profile: Profile) -> BodyAnswer
-    requires { ⌜ headLength ≤ length (now body) ⌝ }
+    requires { ⌜ headLength (hasForm true (length (now body))) ≤ length (now body) ⌝ }
     ensures { λ r. ⌜ r ≡ fieldAnswer (now (body .entry)) profile ⌝ }
 {
-    let head = head_from(body);
+    let two = has_form(true, body.len());
+    let size = head_length(two);
+    let head = head_from(body, two);
     let count = head.count as usize;
-    let fits = (HEAD + REGION * count == body.len()) & field_in_range(head);
+    let fits = (size + REGION * count == body.len()) & field_in_range(head);
     if !fits {
         return unfit(profile);
     }
-    let given = regions_from(body, count);
+    let given = regions_from(body, size, count);
     if !given.fits {
         return unfit(profile);
     }
@@ -417,10 +447,7 @@ fn is_known(kind: u16) -> bool
 fn is_field_length(length: usize) -> bool
     ensures { λ r. ⌜ r ≡ fieldLength length ⌝ }
 {
-    if length < 16 {
-        return false;
-    }
-    (length <= 52) & ((length - HEAD) % REGION == 0)
+    has_form(false, length) | has_form(true, length)
 }
 
 // Whether a kind allows a body of this length.

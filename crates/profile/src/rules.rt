@@ -11,7 +11,9 @@ use crate::Tables;
 use crate::Verdict;
 use crate::accept;
 use crate::geometry::end_line;
+use crate::geometry::gate_length;
 use crate::geometry::has_pixel;
+use crate::geometry::has_second_line;
 use crate::geometry::line_length;
 use crate::geometry::product;
 use crate::geometry::region_at;
@@ -27,16 +29,17 @@ use crate::patterns::rows_of;
 use crate::patterns::toggle_fault;
 use crate::ranges::in_range;
 use crate::refuse;
+use crate::values::NONE;
 use crate::values::refuse_toggle;
 ghost use mathlib.Core.Path.{_≡_};
-ghost use mathlib.Core.List.{[], _++_};
+ghost use mathlib.Core.List.{[], _++_, map};
 ghost use mathlib.Core.Bool.{_&&_};
 ghost use Prim.Native.Nat.{_+_, _*_};
 ghost use lib.Dec.{leb, eqb};
 ghost use lib.ListN.{getD};
-ghost use Rattle.profile.specs.Lists.{chunks};
+ghost use Rattle.profile.specs.Lists.{all, chunks};
 ghost use Rattle.profile.specs.Patterns.{used};
-ghost use Rattle.profile.specs.Geometry.{regionCount};
+ghost use Rattle.profile.specs.Geometry.{regionCount, gateLines};
 ghost use Rattle.profile.specs.Rules.{
   firstBroken,
   startsRight,
@@ -46,6 +49,7 @@ ghost use Rattle.profile.specs.Rules.{
   endsRight,
   firstEnds,
   secondRight,
+  linesRight,
   gateRight,
   subckRight,
   shutterRight,
@@ -264,19 +268,41 @@ fn second_right(tables: Tables, field: Field, pattern: Pattern, line: u64) -> bo
         & first_ends(sequence, line, first.length, pattern.length)
 }
 
+// 14: the second pattern on every gate line.
+fn seconds_right(tables: Tables, field: Field, pattern: Pattern) -> bool
+    ensures { λ r. ⌜ r ≡ all (map (secondRight tables field pattern) (gateLines field)) ⌝ }
+{
+    let first = second_right(tables, field, pattern, field.gate as u64);
+    if !has_second_line(field) {
+        return first;
+    }
+    first & second_right(tables, field, pattern, field.gate2 as u64)
+}
+
+// 14: the gate lines lie in the field and differ.
+fn lines_right(field: Field) -> bool
+    ensures { λ r. ⌜ r ≡ linesRight field ⌝ }
+{
+    let first = field.gate < field.lines;
+    if !has_second_line(field) {
+        return first;
+    }
+    first & (field.gate2 < field.lines) & (field.gate != field.gate2)
+}
+
 // 14.
 fn line_verdict(tables: Tables, field: Field) -> Verdict
     ensures { λ r. ⌜ r ≡ firstBroken (lineEntries tables field) ⌝ }
 {
-    if field.lines <= field.gate {
+    if !lines_right(field) {
         return refuse(14, 0);
     }
-    if field.second == 65535 {
+    if field.second == NONE {
         return accept();
     }
     let registers = tables.registers;
     let pattern = pattern_of(registers, field.second);
-    if !second_right(tables, field, pattern, field.gate as u64) {
+    if !seconds_right(tables, field, pattern) {
         return refuse(14, 0);
     }
     accept()
@@ -293,7 +319,7 @@ fn gate_right(gate: Gate, length: u16) -> bool
 fn gates_verdict(tables: Tables, field: Field) -> Verdict
     ensures { λ r. ⌜ r ≡ firstBroken (chunks 5 (gateEntries tables field)) ⌝ }
 {
-    let length = line_length(tables, field, field.gate as u64);
+    let length = gate_length(tables, field);
     let mut k = 0;
     while k < 5 {
         if !gate_right(tables.gates[k], length) {

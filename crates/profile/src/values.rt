@@ -1,4 +1,4 @@
-// The numbers of the modes, the empty items and the empty profile, and verdicts.
+// What stands for none, the numbers of the modes, the empty items and the empty profile, and verdicts.
 use crate::Field;
 use crate::Gate;
 use crate::Mode;
@@ -25,6 +25,9 @@ ghost use Rattle.profile.specs.Values.{
   refused,
   refusedToggle,
 };
+
+// None, of a second gate line and of a second pattern.
+pub(crate) const NONE: u16 = 65535;
 
 // The number of a mode.
 pub fn mode_number(mode: Mode) -> u16
@@ -140,6 +143,7 @@ fn empty_field() -> Field
         lines: 0,
         last: 0,
         gate: 0,
+        gate2: 0,
         second: 0,
         count: 0,
         regions: regions,

@@ -7,27 +7,30 @@ use crate::Shutter;
 use crate::Subck;
 use crate::Written;
 use crate::accept;
+use crate::geometry::has_second_line;
 use crate::geometry::region_count;
-use crate::records::HEAD;
 use crate::records::REGION;
+use crate::records::head_length;
 use crate::refuse;
 use crate::rules::check;
 use crate::values::mode_number;
 ghost use mathlib.Core.Path.{_≡_};
 ghost use mathlib.Core.Bool.{cond};
-ghost use mathlib.Core.List.{[]};
+ghost use mathlib.Core.List.{[], _∷_, _++_};
 ghost use Prim.Native.Nat.{_+_, _*_, _<_, _≤_};
 ghost use lib.ListN.{length};
 ghost use lib.Seq.{sets};
 ghost use Rattle.profile.specs.Lists.{chunks, over};
 ghost use Rattle.profile.specs.Bytes.{twoBytes};
-ghost use Rattle.profile.specs.Script.{regionLength};
+ghost use Rattle.profile.specs.Geometry.{hasSecondLine};
+ghost use Rattle.profile.specs.Script.{headLength, regionLength};
 ghost use Rattle.profile.specs.Writing.{
   longestScript,
   registerRecord,
   registerChunk,
   sequenceWritten,
   sequenceChunk,
+  fieldHead,
   regionBytes,
   fieldChunk,
   gateWritten,
@@ -236,6 +239,34 @@ fn put_regions(out: &mut [u8], at: usize, f: Field, n: usize)
     }
 }
 
+// The header of a field with n regions and the numbers before them, from a place on.
+fn put_head(out: &mut [u8], at: usize, f: Field, n: usize) -> usize
+    requires { ⌜ (at + (4 + headLength (hasSecondLine f)) ≤ length (now out)) × (n ≤ 7) ⌝ }
+    ensures { λ r. ⌜ r ≡ at + (4 + headLength (hasSecondLine f)) ⌝ }
+    ensures { λ _. ⌜ now (out .exit) ≡ sets (now (out .entry)) at (twoBytes ((headLength (hasSecondLine f) + regionLength * n) ∷ 3 ∷ []) ++ fieldHead f) ⌝ }
+{
+    let two = has_second_line(f);
+    let head = head_length(two);
+    let length = (head + REGION * n) as u16;
+    if two {
+        let w = [
+            length,
+            3,
+            f.lines,
+            f.last,
+            f.gate,
+            f.gate2,
+            f.second,
+            f.count,
+        ];
+        put_numbers(out, at, &w);
+        return at + 4 + head;
+    }
+    let w = [length, 3, f.lines, f.last, f.gate, f.second, f.count];
+    put_numbers(out, at, &w);
+    at + 4 + head
+}
+
 // The field where it is present, from a place on.
 fn put_field(out: &mut [u8], at: usize, f: Field) -> usize
     requires { ⌜ at + length (fieldChunk f) ≤ length (now out) ⌝ }
@@ -246,17 +277,7 @@ fn put_field(out: &mut [u8], at: usize, f: Field) -> usize
         return at;
     }
     let n = region_count(f);
-    let w = [
-        (HEAD + REGION * n) as u16,
-        3,
-        f.lines,
-        f.last,
-        f.gate,
-        f.second,
-        f.count,
-    ];
-    put_numbers(out, at, &w);
-    let from = at + 4 + HEAD;
+    let from = put_head(out, at, f, n);
     put_regions(out, from, f, n);
     from + REGION * n
 }
@@ -333,9 +354,10 @@ fn shutters_length(shutters: [Shutter; 2]) -> usize
 
 fn field_length(f: Field) -> usize
     ensures { λ r. ⌜ r ≡ length (fieldChunk f) ⌝ }
-    ensures { λ r. ⌜ r ≤ 56 ⌝ }
+    ensures { λ r. ⌜ r ≤ 58 ⌝ }
 {
-    size_of(f.present, 4 + HEAD + REGION * region_count(f))
+    let head = head_length(has_second_line(f));
+    size_of(f.present, 4 + head + REGION * region_count(f))
 }
 
 // How many bytes the profile's script has.

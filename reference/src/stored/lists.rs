@@ -18,7 +18,7 @@ pub fn add(batch: &mut Batch) {
 /// "room is the shorter length": equal and unequal, exactly enough, one fewer, 0.
 fn compile_rooms(batch: &mut Batch) {
     let still = with(&profile_a(), |p| set_toggles(p, 0, 0, UNUSED));
-    for p in [profile_a(), profile_rich(), still] {
+    for p in [profile_a(), profile_rich(), profile_two(), still] {
         let needed = steps_needed(&p);
         let rooms = [0, 1, needed.saturating_sub(1), needed, needed + 1, needed + 20];
         for counts in rooms {
@@ -44,32 +44,32 @@ fn compile_rooms(batch: &mut Batch) {
     }
 }
 
-/// Writing: "at most 1,312 bytes, at least 998", exactly enough, one fewer, 0.
+/// Writing: at least 998 bytes, and "its longest script becomes 1,314 bytes";
+/// both forms of the field, exactly enough, one fewer, one more, 0.
 fn write_rooms(batch: &mut Batch) {
-    let most = with(&profile_rich(), |p| {
-        for i in 7..10 {
-            p.sequences[i] = sequence(i as u16, 9, 1, 2, 3, 1);
-        }
-    });
-    for p in [profile_a(), profile_rich(), most] {
+    let a_two = with(&profile_a(), |p| p.field.gate2 = 1);
+    let most = [profile_rich(), profile_two()].map(|p| with_all_sequences(&p));
+    for p in [profile_a(), a_two, profile_rich(), profile_two()].into_iter().chain(most) {
         let needed = records(&p).concat().len();
         for room in [0, 1, 3, needed - 1, needed, needed + 1, needed + 700] {
             batch.write(&p, room);
         }
     }
     // Each item by itself.
-    let edits: [fn(&mut Profile); 5] = [
+    let edits: [fn(&mut Profile); 6] = [
         |p| p.gates[3] = gate(0, 1, 4095, 17),
         |p| p.subck = subck(1, 0x123, 0x456, 0x789, 0xABC),
         |p| p.shutters[0] = shutter(1, (0, 1), (1, 9)),
         |p| p.shutters[1] = shutter(0, (0, 1), (1, 9)),
         |p| p.sequences[9] = sequence(9, 0x123, 0x456, 0x789, 0xABC, 3),
+        |p| set_gate_lines(p, 1, 0),
     ];
     for edit in edits {
         batch.write(&with(&profile_a(), edit), 1100);
     }
     for mode in [Mode::Plain, Mode::Sweep, Mode::Multiplier] {
         batch.write(&profile_seven(mode), 1312);
+        batch.write(&with(&profile_seven(mode), |p| p.field.gate2 = 0x0D), 1314);
     }
     // The largest slice a payload can carry.
     batch.write(&profile_a(), 65_536 - 2 * NUMBERS);

@@ -2,6 +2,7 @@
 //! every mode, edge and slip that 01 names.
 
 mod full;
+mod gate_lines;
 mod lists;
 mod ranges;
 mod reading;
@@ -22,6 +23,7 @@ pub fn cases() -> Vec<Case> {
     reading::add(&mut batch);
     ranges::add(&mut batch);
     rules::add(&mut batch);
+    gate_lines::add(&mut batch);
     words::add(&mut batch);
     lists::add(&mut batch);
     full::add(&mut batch);

@@ -1,4 +1,4 @@
-//! Refusal 5 of a profile handed in: each of its 380 numbers at its edges, and
+//! Refusal 5 of a profile handed in: each of its 381 numbers at its edges, and
 //! absent items that are not all zeros.
 
 use super::Batch;
@@ -75,8 +75,9 @@ fn present_alone(batch: &mut Batch, rich: &Profile) {
     }
     batch.check(&with(rich, |p| p.field = Field::default()));
     batch.check(&with(rich, |p| p.field = Field { present: true, ..Field::default() }));
-    // An absent field has second pattern 0, not 65,535.
+    // An absent field has second pattern 0 and second gate line 0, not 65,535.
     batch.check(&with(rich, |p| p.field = Field { second: NO_SECOND, ..Field::default() }));
+    batch.check(&with(rich, |p| p.field = Field { gate2: NO_GATE2, ..Field::default() }));
 }
 
 fn second(batch: &mut Batch, rich: &Profile) {

@@ -75,6 +75,7 @@ fn one_of_each_kind() -> Vec<Vec<u8>> {
         register(17, 0xABCDEF),
         record(2, &[3, 0, 10, 2, 1, 2, 0]),
         record(3, &[2, 10, 0, NO_SECOND, 1, 0, 3, 0]),
+        record(3, &[2, 10, 0, 1, NO_SECOND, 1, 0, 3, 0]),
         record(4, &[2, 1, 0, 3, 5]),
         record(5, &[1, 3, 5, 1, 2]),
         record(6, &[1, 1, 0, 3, 1, 5]),
@@ -93,8 +94,7 @@ fn kinds(batch: &mut Batch) {
 /// "length not allowed for the kind"
 fn lengths(batch: &mut Batch) {
     for kind in 1..=6 {
-        let few = (0..=17).chain([21, 22, 23, 27, 28, 29, 34, 40, 46, 51, 52, 53, 58, 64, 256, 260, 266, 270, 65_535]);
-        for length in few {
+        for length in (0..=66).chain([256, 260, 266, 270, 274, 65_535]) {
             batch.read(raw_record(length, kind, &[0; 70][..(length as usize).min(70)]));
         }
         batch.read([script_a(), raw_record(5, kind, &[0; 5])].concat());
@@ -106,7 +106,7 @@ fn order_inside_a_record(batch: &mut Batch) {
     let before = register(17, 5);
     let bodies: [&[u8]; 3] = [&[], &[0xFF], &[0xFF; 60]];
     for kind in [0, 1, 2, 3, 4, 5, 6, 7] {
-        for length in [4, 10, 12, 14, 15, 16, 52, 65_535] {
+        for length in [4, 10, 12, 14, 15, 16, 18, 52, 54, 65_535] {
             for body in bodies {
                 let record = raw_record(length, kind, body);
                 batch.read(record.clone());
@@ -129,6 +129,7 @@ fn order_of_records(batch: &mut Batch) {
         register(0x78, 0),
         record(2, &[0, 0, 0, 0, 0, 0, 0]),
         record(3, &[0, 1, 0, 0, 1, 0, 0, 0]),
+        record(3, &[1, 1, 0, 4095, 0, 1, 0, 0, 0]),
     ];
     for first in &wrong {
         for second in &wrong {
@@ -163,6 +164,11 @@ fn forms() -> Vec<Form> {
             kind: 3,
             numbers: vec![2, 10, 0, NO_SECOND, 1, 0, 0, 0],
             limits: vec![(1, 4095), (1, 4095), (0, 4094), (0, 9), (1, 1), (0, 4094), (0, 9), (0, 2)],
+        },
+        Form {
+            kind: 3,
+            numbers: vec![2, 10, 0, 1, NO_SECOND, 1, 0, 0, 0],
+            limits: vec![(1, 4095), (1, 4095), (0, 4094), (0, 4094), (0, 9), (1, 1), (0, 4094), (0, 9), (0, 2)],
         },
         Form { kind: 4, numbers: vec![1, 0, 1, 3, 5], limits: vec![(0, 4), (0, 1), (0, 1), any, any] },
         Form { kind: 5, numbers: vec![1, 3, 5, 1, 2], limits: vec![(0, 1), any, any, any, any] },
@@ -207,36 +213,41 @@ fn register_values(batch: &mut Batch) {
 }
 
 /// "An n that disagrees with the length is refusal 5", and the values of each
-/// region.
+/// region, in both forms.
 fn field_values(batch: &mut Batch) {
-    for regions in 1..=7 {
-        for n in [0, 1, 2, 3, 6, 7, 8, 9, 256 + regions, 65_535] {
-            let mut numbers = vec![9, 10, 0, NO_SECOND, n];
-            for i in 0..regions {
-                numbers.extend([i, 0, 0]);
-            }
-            batch.read([script_a(), record(3, &numbers)].concat());
-        }
-        // The regions that n leaves out are all zeros.
-        for n in 1..regions {
-            let mut numbers = vec![9, 10, 0, NO_SECOND, n];
-            numbers.extend((0..n).flat_map(|i| [i, 0, 0]));
-            numbers.resize(5 + 3 * regions as usize, 0);
-            batch.read([script_a(), record(3, &numbers)].concat());
-        }
-        for i in 0..regions {
-            for (which, value) in [(0, 4094), (0, 4095), (1, 9), (1, 10), (2, 2), (2, 3), (2, 256)] {
-                let mut numbers = vec![9, 10, 0, NO_SECOND, regions];
-                for j in 0..regions {
-                    numbers.extend([j, 0, 0]);
+    for gate_lines in [vec![0], vec![0, 8], vec![0, NO_GATE2]] {
+        let head = |n: u16| [&[9, 10], &gate_lines[..], &[NO_SECOND, n]].concat();
+        let size = head(1).len();
+        for regions in 1..=7 {
+            for n in [0, 1, 2, 3, 6, 7, 8, 9, 256 + regions, 65_535] {
+                let mut numbers = head(n);
+                for i in 0..regions {
+                    numbers.extend([i, 0, 0]);
                 }
-                numbers[(5 + 3 * i + which) as usize] = value;
                 batch.read([script_a(), record(3, &numbers)].concat());
+            }
+            // The regions that n leaves out are all zeros.
+            for n in 1..regions {
+                let mut numbers = head(n);
+                numbers.extend((0..n).flat_map(|i| [i, 0, 0]));
+                numbers.resize(size + 3 * regions as usize, 0);
+                batch.read([script_a(), record(3, &numbers)].concat());
+            }
+            for i in 0..regions {
+                for (which, value) in [(0, 4094), (0, 4095), (1, 9), (1, 10), (2, 2), (2, 3), (2, 256)] {
+                    let mut numbers = head(regions);
+                    for j in 0..regions {
+                        numbers.extend([j, 0, 0]);
+                    }
+                    numbers[size + (3 * i + which) as usize] = value;
+                    batch.read([script_a(), record(3, &numbers)].concat());
+                }
             }
         }
     }
     for second in [0, 9, 10, 255, 256, 4095, 65_534, 65_535] {
         batch.read([script_a(), record(3, &[2, 10, 0, second, 1, 0, 0, 0])].concat());
+        batch.read([script_a(), record(3, &[2, 10, 0, 1, second, 1, 0, 0, 0])].concat());
     }
 }
 

@@ -27,7 +27,8 @@ pub fn add(batch: &mut Batch) {
     rule_16(batch);
     rule_17(batch);
     unused_items(batch);
-    order(batch);
+    order(batch, &profile_rich(), &breakers());
+    order(batch, &profile_two(), &two_breakers());
     refusals_before_18_and_19(batch);
 }
 
@@ -601,20 +602,40 @@ fn breakers() -> Vec<fn(&mut Profile)> {
     ]
 }
 
+/// The same of `profile_two`, where 14 and 15 are broken on one of the gate
+/// lines alone, or by both together.
+fn two_breakers() -> Vec<fn(&mut Profile)> {
+    vec![
+        |p| p.field.gate2 = 4095,
+        |p| p.field = Field::default(),
+        |p| p.field.regions[6].first = 16,
+        |p| p.sequences[1].start = 12,
+        |p| p.sequences[6].start = 25,
+        |p| p.field.gate = 16,
+        |p| p.field.gate2 = 16,
+        |p| p.field.gate2 = 8,
+        |p| p.sequences[3].start = 3,
+        |p| p.sequences[0].odd = 2,
+        |p| p.field.gate2 = 4,
+        |p| p.gates[1].toggle2 = 15,
+        |p| p.gates[3].toggle1 = 9,
+        |p| p.subck.suppressed = 0,
+        |p| p.shutters[0].on_pixel = 17,
+    ]
+}
+
 /// Several rules broken at once: every pair, and all of them mended one by one.
-fn order(batch: &mut Batch) {
-    let rich = profile_rich();
-    let all = breakers();
+fn order(batch: &mut Batch, base: &Profile, all: &[fn(&mut Profile)]) {
     for one in 0..all.len() {
-        batch.judge(&with(&rich, all[one]));
+        batch.judge(&with(base, all[one]));
         for other in 0..one {
-            batch.judge(&with(&rich, |p| {
+            batch.judge(&with(base, |p| {
                 all[one](p);
                 all[other](p);
             }));
         }
         // Everything from this rule on is broken.
-        batch.judge(&with(&rich, |p| all[one..].iter().rev().for_each(|edit| edit(p))));
+        batch.judge(&with(base, |p| all[one..].iter().rev().for_each(|edit| edit(p))));
     }
 }
 
@@ -625,7 +646,13 @@ fn refusals_before_18_and_19(batch: &mut Batch) {
         batch.ask_all(&p);
         batch.ask_all_too_much(&p);
     }
+    for edit in two_breakers() {
+        let p = with(&profile_two(), edit);
+        batch.ask_all(&p);
+        batch.ask_all_too_much(&p);
+    }
     batch.ask_all_too_much(&profile_rich());
+    batch.ask_all_too_much(&profile_two());
     for i in [1, 6] {
         for rule in 8..=13 {
             batch.ask_all_too_much(&with(&profile_seven(Mode::Sweep), |p| break_region(p, rule, i)));

@@ -17,15 +17,18 @@ returns c =
     let w = x .before .before .before .before in
     let v = w .before .before .before .before in
     let u = v .before .before .before .before in
-    let g = u .before .before .before .good in
-    let two = puts-more (puts-more (u .put-decimal .ensures) (v .put-byte .ensures)) (w .put-decimal2 .ensures) in
+    let t = u .before .before .before .before in
+    let s = t .before .before .before .before in
+    let g = s .before .before .before .good in
+    let two = puts-more (puts-more (s .put-decimal .ensures) (t .put-byte .ensures)) (u .put-decimal2 .ensures) in
+    let three = puts-more (puts-more two (v .put-byte2 .ensures)) (w .put-decimal3 .ensures) in
     record {
-      puts = puts-more (puts-more (puts-more two (x .put-byte2 .ensures)) (y .put-decimal3 .ensures)) (z .put-byte3 .ensures);
-      short = figures-length _ (omega (arith, g)) (omega (arith, g)) (omega (arith, g));
+      puts = puts-more (puts-more (puts-more three (x .put-byte3 .ensures)) (y .put-decimal4 .ensures)) (z .put-byte4 .ensures);
+      short = figures-length _ (omega (arith, g)) (omega (arith, g)) (omega (arith, g)) (omega (arith, g));
     }
 
 pub put-figures-line-spec : {M : Type 1} → statement M
 put-figures-line-spec =
     tie.close
     (tie.spec (λ c κs. search needs) (λ c κs. search needs) (λ c κs. search needs) (λ c κs. search needs) (λ c κs. search needs)
-    (λ c κs. search needs) (λ c. search needs) returns)
+    (λ c κs. search needs) (λ c κs. search needs) (λ c κs. search needs) (λ c. search needs) returns)

@@ -4,6 +4,7 @@ use borrow.Author.Needs.{needs}
 use mathlib.Core.Path.{_≡_}
 use native.Mathlib.Omega.{arith}
 use lib.ListN.{length, length-take}
+use Rattle.profile.specs.Writing.{longestScript}
 use Rattle.holdlist.proofs.Puts.{puts-as}
 use Rattle.ask.proofs.Answering.{short-as, write-refused, write-inside, write-taken, write-short}
 use Rattle.ask.proofs.answers.put_write_text.Statement.{statement}
@@ -21,7 +22,7 @@ array-share-prefix-room c =
     let i = c .before in
     let w = i .before .before .before .before in
     let r = w .before .before .script-room in
-    let h : length (w .write .last .1 .0) ≡ 1312 = search needs in
+    let h : length (w .write .last .1 .0) ≡ longestScript = search needs in
     omega (arith, write-inside _ (r .result) _ (w .write .ensures .0) (r .ensures) (i .if1 .left))
 
 slice-aggregate-put-bytes : tie.Need-slice-aggregate-put-bytes
@@ -29,7 +30,7 @@ slice-aggregate-put-bytes c =
     let i = c .before .before in
     let w = i .before .before .before .before in
     let r = w .before .before .script-room in
-    let h : length (w .write .last .1 .0) ≡ 1312 = search needs in
+    let h : length (w .write .last .1 .0) ≡ longestScript = search needs in
     simp length-take (omega (arith, write-inside _ (r .result) _ (w .write .ensures .0) (r .ensures) (i .if1 .left)))
 
 returns-2 : tie.Need-returns-2

@@ -8,14 +8,14 @@ use Rattle.ask.proofs.figures.field_figures.Tie as tie
 
 returns : tie.Need-returns
 unfolding fieldFigures
-returns c = rw (c .before .match .keys1) (c .three .ensures)
+returns c = rw (c .before .match .keys1) (c .four .ensures)
 
 returns-2 : tie.Need-returns-2
 returns-2 c = rw (c .before .match .keys2) (c .gate-figures .ensures)
 
 returns-3 : tie.Need-returns-3
 unfolding fieldFigures
-returns-3 c = rw (c .before .match .keys3) (c .three2 .ensures)
+returns-3 c = rw (c .before .match .keys3) (c .three .ensures)
 
 returns-4 : tie.Need-returns-4
 unfolding fieldFigures

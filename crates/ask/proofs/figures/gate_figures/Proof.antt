@@ -1,4 +1,4 @@
--- The gate's toggles, and the length of the gate line.
+-- The gate's toggles, and the length of the shortest gate line.
 -- Assumes nothing.
 use borrow.Author.Needs.{needs}
 use Rattle.ask.specs.Figures.{fieldFigures}
@@ -12,4 +12,4 @@ returns c = cc
 pub gate-figures-spec : {M : Type 1} → statement M
 gate-figures-spec =
     tie.close
-    (tie.spec (λ c κs. search needs) (λ c. search needs) (λ c κs. search needs) (λ c κs. search needs) returns)
+    (tie.spec (λ c κs. search needs) (λ c κs. search needs) (λ c κs. search needs) returns)

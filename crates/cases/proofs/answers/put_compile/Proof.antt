@@ -25,6 +25,6 @@ returns c =
 pub put-compile-spec : {M : Type 1} → statement M
 put-compile-spec =
     tie.close
-    (tie.spec (λ c κs. search needs) (λ c κs. search needs) (λ c κs. search needs) (λ c κs. search needs) (λ c. search needs)
+    (tie.spec (λ c κs. search needs) (λ c κs. search needs) (λ c κs. search needs) (λ c. search needs) (λ c κs. search needs) (λ c. search needs)
     (λ c. simp length-take (omega arith)) (λ c. search needs) (λ c. simp length-take (omega arith))
     (λ c κs. simp length-take (omega arith)) (λ c. search needs) returns)

@@ -3,6 +3,7 @@
 use borrow.Author.Needs.{needs}
 use Rattle.holdlist.proofs.Puts.{puts-as}
 use Rattle.profile.proofs.Laws.{rest-dropped}
+use Rattle.cases.specs.Raw.{rawLength}
 use Rattle.cases.proofs.answers.put_write.Statement.{statement}
 use Rattle.cases.proofs.answers.put_write.Tie as tie
 
@@ -10,7 +11,7 @@ returns : tie.Need-returns
 returns c =
     let w = c .before .before .before .before in
     let e = w .before .before .before in
-    puts-as (w .put-written .ensures) (rw (e .before .before .raw-profile .ensures, rest-dropped 760 _ _ (e .raw-end .ensures)))
+    puts-as (w .put-written .ensures) (rw (e .before .before .raw-profile .ensures, rest-dropped rawLength _ _ (e .raw-end .ensures)))
 
 pub put-write-spec : {M : Type 1} → statement M
 put-write-spec =

@@ -1,4 +1,4 @@
--- All numbers are read, and there are 380.
+-- All numbers are read, and there are 381.
 -- Assumes nothing.
 use borrow.Author.Needs.{needs}
 use Rattle.cases.proofs.raw.raw_numbers.Statement.{statement}

@@ -8,7 +8,7 @@ use Rattle.profile.proofs.ranges.head_in.Tie as tie
 
 returns-2 : tie.Need-returns-2
 unfolding headIn
-returns-2 c = rw (c .before .before .before .before .before .if1 .left) (joined-all _ _)
+returns-2 c = rw (c .before .before .before .before .before .before .if1 .left) (joined-all _ _)
 
 pub head-in-spec : {M : Type 1} → statement M
 unfolding headIn

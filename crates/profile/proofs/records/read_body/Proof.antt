@@ -4,7 +4,8 @@ use mathlib.Core.Path.{_≡_, sym, _∙_}
 use borrow.Author.Tests.{eqb-true}
 use Rattle.profile.specs.Values.{setTables}
 use Rattle.profile.specs.Script.{shutterFits, withShutter, allowed, fits, withRecord}
-use Rattle.profile.proofs.Readers.{last-kind, field-long}
+use Rattle.profile.proofs.Forms.{form-long}
+use Rattle.profile.proofs.Readers.{last-kind}
 use Rattle.profile.proofs.records.read_body.Statement.{statement}
 use Rattle.profile.proofs.records.read_body.Tie as tie
 
@@ -18,7 +19,7 @@ read-sequence-requires c κs = eqb-true _ _ (rw (c .match .keys2) at (c .before 
 
 read-field-requires : tie.Need-read-field-requires
 unfolding allowed
-read-field-requires c κs = field-long _ (rw (c .match .keys3) at (c .before .before .pre))
+read-field-requires c κs = form-long _ (rw (c .match .keys3) at (c .before .before .pre))
 
 read-gate-requires : tie.Need-read-gate-requires
 unfolding allowed

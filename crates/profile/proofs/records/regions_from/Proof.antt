@@ -7,10 +7,10 @@ use Rattle.profile.proofs.records.regions_from.Statement.{statement}
 use Rattle.profile.proofs.records.regions_from.Tie as tie
 
 abbrev Inv-loop : tie.InvT-loop
-Inv-loop body count regions₀ fits₀ i₀ regions fits i = Filled body count regions fits i
+Inv-loop body head count regions₀ fits₀ i₀ regions fits i = Filled head body count regions fits i
 
 abbrev μ-loop : tie.MeasureT-loop
-μ-loop body count regions₀ fits₀ i₀ regions fits i = count - i
+μ-loop body head count regions₀ fits₀ i₀ regions fits i = count - i
 
 pub regions-from-spec : {M : Type 1} → statement M
 regions-from-spec =

@@ -1,4 +1,4 @@
--- The gates passed are right on the gate line, whose length is answered once; the first that is not answers for all.
+-- The gates passed are right on the shortest gate line, whose length is answered once; the first that is not answers for all.
 -- Assumes nothing.
 use Prim.Native.Nat.{_-_}
 use Rattle.profile.proofs.Judging.{gatesOn, gates-length, Fine, passing}
@@ -15,8 +15,14 @@ abbrev μ-loop : tie.MeasureT-loop
 pub gates-verdict-spec : {M : Type 1} → statement M
 gates-verdict-spec =
     tie.close
-    (tie.spec Inv-loop μ-loop (λ c. search needs) (λ c κs. search needs) (λ c. search passing) (λ c. search needs)
-    (λ c. search needs) (λ c κs. search needs) (λ c κs. search needs)
-    (λ c. let l = c .before .before .before .before .before .before in gates-length (l .before .before .args .t1) (l .line-length .ensures) (search passing))
+    (tie.spec Inv-loop μ-loop (λ c κs. search needs) (λ c. search passing) (λ c. search needs) (λ c. search needs)
+    (λ c κs. search needs) (λ c κs. search needs)
+    (λ c.
+    let l = c .before .before .before .before .before .before in
+    let a = l .before .args in
+    gates-length (a .t1) (a .field) (l .gate-length .ensures) (search passing))
     (λ c. search needs) (λ c. search needs) (λ c. search passing) (λ c κs. search needs)
-    (λ c. let l = c .before .before .before in gates-length (l .before .before .args .t1) (l .line-length .ensures) (search passing)))
+    (λ c.
+    let l = c .before .before .before in
+    let a = l .before .args in
+    gates-length (a .t1) (a .field) (l .gate-length .ensures) (search passing)))

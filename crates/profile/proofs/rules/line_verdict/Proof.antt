@@ -1,4 +1,4 @@
--- The gate line's test, then the second pattern's where there is one.
+-- The gate lines' test, then the second pattern's where there is one.
 -- Assumes nothing.
 use Rattle.profile.proofs.Judging.{judging}
 use borrow.Author.Needs.{needs}
@@ -8,6 +8,6 @@ use Rattle.profile.proofs.rules.line_verdict.Tie as tie
 pub line-verdict-spec : {M : Type 1} → statement M
 line-verdict-spec =
     tie.close
-    (tie.spec (λ c κs. search needs) (λ c. search judging) (λ c κs. search needs) (λ c. search judging) (λ c κs. search needs)
-    (λ c. search needs) (λ c κs. search needs) (λ c κs. search needs) (λ c. search judging) (λ c κs. search needs)
+    (tie.spec (λ c κs. search needs) (λ c κs. search needs) (λ c. search judging) (λ c κs. search needs) (λ c. search judging)
+    (λ c κs. search needs) (λ c κs. search needs) (λ c κs. search needs) (λ c. search judging) (λ c κs. search needs)
     (λ c. search judging))
