@@ -292,7 +292,7 @@ pub struct RegionsAnswer {
 // The bytes of a field's body before its regions, by whether a second gate line is among them.
 pub(crate) fn head_length(two: bool) -> usize
     ensures { λ r. ⌜ r ≡ headLength two ⌝ }
-    ensures { λ r. ⌜ r ≤ 12 ⌝ }
+    ensures { λ r. ⌜ (10 ≤ r) × (r ≤ 12) ⌝ }
 {
     if two { 12 } else { 10 }
 }
