@@ -1,6 +1,6 @@
 #!/usr/bin/env bash
 # Asks the entry points and a second implementation, reference/, the same questions and compares every answer, byte by byte: the stored batch, and
-# a random one with a fresh seed (CASES_SEED=N repeats one). Then breaks one rule in each of three copies of the second implementation, which must be noticed.
+# a random one with a fresh seed (CASES_SEED=N repeats one). Then breaks one rule in each of four copies of the second implementation, which must be noticed.
 set -u
 cd "$(dirname "$0")/.." || exit 1
 program=$PWD/target/bin/cases
@@ -58,6 +58,8 @@ broken() {
 broken "18 asks for one step of room too many" list.rs 's/demand(needed <= room, NO_ROOM/demand(needed < room, NO_ROOM/'
 broken "10 names the highest output out of order" rules.rs 's/(1\.\.=OUTPUTS)\.find_map/(1..=OUTPUTS).rev().find_map/'
 broken "gates and the second pattern act on the first gate line alone" word.rs 's/gate_lines(profile)\.any/gate_lines(profile).take(1).any/'
+
+broken "a field pixel is looked for as if the last line had its sequence's length" word.rs 's/let length = line_length(profile, line);/let length = profile.sequence_of(region_of_line(profile, line)).length as u64;/'
 
 # a batch at fault: one line on standard error, and no answer
 fault() {

@@ -869,9 +869,25 @@ fn locate_case(rng: &mut Rng) -> Case {
         0 => rng.wide(3),
         1 => pixels,
         2 => pixels - 1,
+        3..=5 => pixels_before(&profile, a_region_start(rng, &profile)).saturating_sub(rng.below(2)),
+        6 => pixels_before(&profile, profile.field.lines.saturating_sub(1)) + rng.below(3),
         _ => rng.edgy(0, pixels - 1),
     };
     Case::Locate { profile, n }
+}
+
+/// A line at which a region starts.
+fn a_region_start(rng: &mut Rng, p: &Profile) -> u16 {
+    let given = (p.field.count as usize).clamp(1, REGIONS);
+    rng.pick(&p.field.regions[..given]).first
+}
+
+/// The pixels of an accepted profile's lines before a line.
+fn pixels_before(p: &Profile, line: u16) -> u64 {
+    if check(p).is_err() {
+        return 9;
+    }
+    (0..line as u64).map(|line| line_length(p, line)).sum()
 }
 
 fn compile_case(rng: &mut Rng) -> Case {

@@ -1,6 +1,7 @@
 //! Cases computed by hand from 01, and what the batches must cover.
 
 mod gate_lines;
+mod places;
 
 use crate::case::{answer, decode_batch, Case};
 use crate::list::{compile, play, Compiled};

@@ -5,13 +5,12 @@ use profile::Pattern;
 use profile::Profile;
 use profile::Tables;
 use profile::Verdict;
-use profile::end_line;
 use profile::gate_length;
 use profile::gate_of;
 use profile::pattern_of;
 use profile::read_records;
 use profile::region_at;
-use profile::region_pixels;
+use profile::region_size;
 use profile::rows_of;
 use profile::sequence_at;
 use profile::shutter_of;
@@ -129,7 +128,7 @@ fn run_figures(tables: Tables, field: Field, i: usize) -> Figures
     let sequence = sequence_at(tables, field, i);
     let registers = tables.registers;
     let pattern = pattern_of(registers, sequence.pattern);
-    let size = region_pixels(tables, field, i, end_line(field, i));
+    let size = region_size(tables, field, i);
     two(run_end(sequence.start, sequence.odd, pattern.length), size)
 }
 

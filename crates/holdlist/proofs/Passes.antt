@@ -3,14 +3,18 @@
 -- Assumes nothing.
 use Prim.Native.Nat.{ℕ, _≤_, _<_, min}
 use native.Mathlib.Omega.{arith}
-use mathlib.Core.Path.{_≡_, _∙_}
+use mathlib.Core.Path.{_≡_, sym, _∙_}
+use borrow.Author.Tests.{eqb-true}
 use mathlib.Core.List.{List, [], _++_}
 use mathlib.Core.Bool.{true, false}
 use lib.ListN.{length}
 use Rattle.profile.specs.Values.{accepted, refused, accepts}
-use Rattle.profile.specs.Geometry.{pixelCount}
+use Rattle.profile.specs.Geometry.{regionsPixels}
 use Rattle.profile.specs.Rules.{checkProfile}
 use Rattle.profile.specs.declared.Profile.{Profile}
+use Rattle.profile.proofs.Lines.{regions-pixels}
+use Rattle.profile.proofs.Checked.{check-number}
+use Rattle.profile.proofs.Accepted.{accepted-ordered}
 use Rattle.level.proofs.Words.{field-words-length}
 use Rattle.holdlist.specs.declared.Compiled.{Compiled}
 use Rattle.holdlist.specs.Fills.{Writes}
@@ -41,10 +45,12 @@ module _ (p : Profile) (cs ws : List ℕ) where
       pub passes-fit :
           {m : ℕ} {cs′ ws′ : List ℕ} →
           n ≤ k → Writes (fieldRuns p) (a ++ cs) (b ++ ws) m cs′ ws′ →
-          Compiles p cs ws (record { verdict = accepted; steps = m; pixels = pixelCount (p .tables) (p .field) }) cs′ ws′
+          Compiles p cs ws (record { verdict = accepted; steps = m; pixels = regionsPixels (p .tables) (p .field) }) cs′ ws′
       passes-fit {m} {cs′} {ws′} h two =
           let z = writes-nowhere one in
           let l : length (fieldRuns p) ≤ roomOf cs ws = rw (← room, ← one .number) h in
           let d : Writes (fieldRuns p) cs ws m cs′ ws′ = rw (z .0, z .1) at two in
           let f = writes-whole d (omega arith) (omega arith) in
-          rw (d .number, f .0, f .1, ← field-words-length (p .tables) (p .field)) (compiles (compile-fits p cs ws ok l))
+          let ordered = accepted-ordered p (check-number p (eqb-true _ _ ok)) in
+          let pixels = regions-pixels (p .field) ordered (p .tables) ∙ sym (field-words-length (p .tables) (p .field)) in
+          rw (d .number, f .0, f .1, pixels) (compiles (compile-fits p cs ws ok l))

@@ -1,6 +1,6 @@
 -- The level asked for at a line and pixel, and the line and pixel of a field pixel counted from 0.
 -- Assumes nothing.
-use Prim.Native.Nat.{ℕ, _+_, _-_}
+use Prim.Native.Nat.{ℕ, _+_, _-_, _*_}
 use mathlib.Core.Bool.{cond}
 use lib.Dec.{ltb}
 use Rattle.profile.specs.Lists.{lastStart}
@@ -40,6 +40,10 @@ lineAt t f n = lastStart (pixelsBefore t f) (f .lines) n
 
 abbrev pub pixelAt : Tables → Field → ℕ → ℕ
 pixelAt t f n = n - pixelsBefore t f (lineAt t f n)
+
+-- the last of so many lines of one length that starts at or before pixel n: what code divides for (proofs/Divided.antt, line-divided)
+abbrev pub lastMultiple : ℕ → ℕ → ℕ → ℕ
+lastMultiple length lines n = lastStart (λ (k : ℕ). k * length) lines n
 
 -- "a field pixel, counted from 0, can be asked for its line and pixel (0 and 0 when refused, 19 past the end)"
 abbrev pub noPlace : Verdict → Located

@@ -10,10 +10,15 @@ use profile::Tables;
 use profile::accept;
 use profile::check;
 use profile::has_pixel;
-use profile::line_length;
 use profile::refuse;
+use profile::region_at;
+use profile::region_count;
+use profile::region_size;
+use profile::sequence_of;
 ghost use mathlib.Core.Path.{_≡_};
-ghost use Rattle.level.specs.Place.{levelAnswer, placeAnswer, locateAnswer};
+ghost use Prim.Native.Nat.{_*_, _≤_, _<_};
+ghost use Rattle.profile.specs.Geometry.{Ordered, regionCount, firstLine, regionSize};
+ghost use Rattle.level.specs.Place.{levelAnswer, placeOf, placeAnswer, locateAnswer, lastMultiple};
 
 // The word at a line and pixel; 0 where it is refused.
 pub fn level(profile: Profile, line: u64, pixel: u64) -> LevelAnswer
@@ -40,24 +45,55 @@ pub fn level(profile: Profile, line: u64, pixel: u64) -> LevelAnswer
     }
 }
 
-// The line and pixel of pixel n of a field: each line takes its length off n.
+// The last of some lines of one length that starts at or before pixel n; 0 where there is none.
+fn line_by_division(length: u64, lines: u64, n: u64) -> u64
+    ensures { λ r. ⌜ r ≡ lastMultiple length lines n ⌝ }
+    ensures { λ r. ⌜ (r ≤ lines) × (r * length ≤ n) ⌝ }
+{
+    if lines == 0 {
+        return 0;
+    }
+    if length == 0 {
+        return lines - 1;
+    }
+    let line = n / length;
+    if line < lines { line } else { lines - 1 }
+}
+
+// The line and pixel of pixel n of region i. Its lines are of one length but for the field's last, which has no line after it.
+fn place_in(tables: Tables, field: Field, i: usize, n: u64) -> Located
+    requires { ⌜ Ordered field ⌝ }
+    requires { ⌜ i < regionCount field ⌝ }
+    requires { ⌜ n < regionSize tables field i ⌝ }
+    ensures { λ r. ⌜ r ≡ placeAnswer tables field (placeOf tables field (firstLine field i) n) ⌝ }
+{
+    let region = region_at(field, i);
+    let sequence = sequence_of(tables, region.sequence);
+    let first = region.first as u64;
+    let length = sequence.length as u64;
+    let line = line_by_division(length, (field.lines as u64) - first, n);
+    Located {
+        verdict: accept(),
+        line: first + line,
+        pixel: n - line * length,
+    }
+}
+
+// The line and pixel of pixel n of a field whose regions are in order: each region takes its size off n.
 fn place_of(tables: Tables, field: Field, n: u64) -> Located
+    requires { ⌜ Ordered field ⌝ }
     ensures { λ r. ⌜ r ≡ placeAnswer tables field n ⌝ }
 {
-    let lines = field.lines as u64;
-    let mut line = 0u64;
+    let count = region_count(field);
+    let mut i = 0usize;
     let mut left = n;
-    while line < lines {
-        let length = line_length(tables, field, line) as u64;
-        if left < length {
-            return Located {
-                verdict: accept(),
-                line: line,
-                pixel: left,
-            };
+    while i < count {
+        let size = region_size(tables, field, i);
+        if left < size {
+            return place_in(tables, field, i, left);
         }
-        left -= length;
-        line += 1;
+        left -= size;
+        i += 1;
     }
     Located {
         verdict: refuse(19, 0),

@@ -207,6 +207,14 @@ pub sum-more : (g : ℕ → ℕ) (a n : ℕ) → sum g a (n + 1) ≡ sum g a n +
 unfolding sum
 sum-more g a n = rw add-one
 
+-- from 0 on
+pub sum-none : (g : ℕ → ℕ) → sum g 0 0 ≡ 0
+unfolding sum
+sum-none g = refl
+
+pub sum-next : (g : ℕ → ℕ) (n : ℕ) → sum g 0 (n + 1) ≡ sum g 0 n + g n
+sum-next g n = sum-more g 0 n ∙ ap (λ (k : ℕ). sum g 0 n + g k) (zero-add n)
+
 pub sum-ext : (g h : ℕ → ℕ) (a n : ℕ) → ((i : ℕ) → a ≤ i → i < a + n → g i ≡ h i) → sum g a n ≡ sum h a n
 unfolding sum
 sum-ext g h a zero e = refl

@@ -5,14 +5,14 @@ use mathlib.Core.Path.{_≡_, refl, sym, ap, _∙_}
 use mathlib.Core.Bool.{true}
 use mathlib.Core.List.{List}
 use Prim.Native.Nat.{ℕ, zero, suc, _+_, _*_, _-_, _≤_, _<_}
-use native.Mathlib.Nat.{zero-mul, zero-add, le-trans}
+use native.Mathlib.Nat.{zero-mul, le-trans}
 use native.Mathlib.Numerals.{add-one}
 use native.Mathlib.Omega.{arith}
 use borrow.Author.Tests.{lt-leb, ltb-true, ltb-false, leb-true, leb-false, eqb-true, eqb-false, lt-ltb, le-ltb, eq-eqb, ne-eqb}
 use lib.Dec.{ltb, leb, eqb}
 use Rattle.profile.proofs.Items.{items}
 use Rattle.profile.proofs.Carried.{sequence-in, region-in, head-in}
-use Rattle.profile.proofs.Laws.{cond-case, by-cases, and-left, and-right, and-intro, sum-ext, sum-same, sum-le, sum-more, sum-below, sum-but-one, sum-upto, sum-parts, chunks-parts, last-below, last-is, last-starts, last-next}
+use Rattle.profile.proofs.Laws.{cond-case, by-cases, and-left, and-right, and-intro, sum-ext, sum-same, sum-le, sum-none, sum-next, sum-below, sum-but-one, sum-upto, sum-parts, chunks-parts, last-below, last-is, last-starts, last-next}
 use Rattle.profile.specs.Lists.{chunks, sum, lastStart}
 use Rattle.profile.specs.Geometry.{
   regionCount,
@@ -30,6 +30,7 @@ use Rattle.profile.specs.Geometry.{
   regionSize,
   pixelsBefore,
   pixelCount,
+  regionsPixels,
   hasPixel,
 }
 use Rattle.profile.specs.Ranges.{sequenceIn, inRange}
@@ -106,12 +107,12 @@ product-none first lines last length line h =
 
 module _ (t : Tables) (f : Field) where
   pub before-none : pixelsBefore t f 0 ≡ 0
-  unfolding pixelsBefore sum
-  before-none = refl
+  unfolding pixelsBefore
+  before-none = sum-none (lineLength t f)
 
   pub before-more : (line : ℕ) → pixelsBefore t f (line + 1) ≡ pixelsBefore t f line + lineLength t f line
   unfolding pixelsBefore
-  before-more line = sum-more (lineLength t f) 0 line ∙ ap (λ (k : ℕ). sum (lineLength t f) 0 line + lineLength t f k) (zero-add line)
+  before-more line = sum-next (lineLength t f) line
 
   pub before-all : pixelsBefore t f (f .lines) ≡ pixelCount t f
   unfolding pixelCount
@@ -240,7 +241,7 @@ module _ (f : Field) (o : Ordered f) where
     pixels-before-line i line h l u =
         omega (arith, region-pixels i line h u, sum-upto (lineLength t f) (firstLine f i) line l)
 
-    -- region sizes sum to the pixels before the last one's end, and all to the field's
+    -- region sizes sum to the pixels before the last one's end, before the next one's start, and all to the field's
     pub regions-before : (n : ℕ) → n < regionCount f → sum (regionSize t f) 0 (n + 1) ≡ pixelsBefore t f (endLine f n)
     unfolding pixelsBefore
     regions-before n h =
@@ -250,8 +251,13 @@ module _ (f : Field) (o : Ordered f) where
         (λ i l. omega (arith, start-before-end i (omega arith)))
         (λ i l. end-next f i (omega arith))
 
-    pub regions-pixels : sum (regionSize t f) 0 (regionCount f) ≡ pixelCount t f
-    unfolding pixelCount
+    pub regions-start : (i : ℕ) → i < regionCount f → sum (regionSize t f) 0 i ≡ pixelsBefore t f (firstLine f i)
+    regions-start zero h = sum-none (regionSize t f) ∙ sym (before-none t f) ∙ ap (pixelsBefore t f) (sym (o .zero))
+    regions-start (suc i) h =
+        rw (← add-one) (regions-before i (omega arith) ∙ ap (pixelsBefore t f) (end-next f i (omega arith)))
+
+    pub regions-pixels : regionsPixels t f ≡ pixelCount t f
+    unfolding regionsPixels pixelCount
     regions-pixels =
         let n : ℕ = regionCount f - 1 in
         let e : n + 1 ≡ regionCount f = omega (arith, o .some) in

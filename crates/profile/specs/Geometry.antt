@@ -85,6 +85,10 @@ pixelsBefore t f line = sum (lineLength t f) 0 line
 unfoldable pub pixelCount : Tables → Field → ℕ
 pixelCount t f = pixelsBefore t f (f .lines)
 
+-- the sum over regions that code computes for it (proofs/Lines.antt, regions-pixels): the same of a field whose regions rule 7 orders
+unfoldable pub regionsPixels : Tables → Field → ℕ
+regionsPixels t f = sum (regionSize t f) 0 (regionCount f)
+
 -- there is such a line and pixel
 unfoldable pub hasPixel : Tables → Field → ℕ → ℕ → Bool
 hasPixel t f line pixel = ltb line (f .lines) && ltb pixel (lineLength t f line)

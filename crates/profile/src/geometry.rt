@@ -26,7 +26,8 @@ ghost use Rattle.profile.specs.Geometry.{
   lineLength,
   regionPixels,
   productPixels,
-  pixelCount,
+  regionSize,
+  regionsPixels,
   hasPixel,
   repetitions,
   hasSecondLine,
@@ -199,7 +200,7 @@ fn lines_pixels(first: u16, lines: u16, last: u16, length: u16, line: u16) -> u6
     product(n, length)
 }
 
-// The pixels of region i's lines before a line; its size, where that line is its end.
+// The pixels of region i's lines before a line.
 pub fn region_pixels(tables: Tables, field: Field, i: usize, line: u16) -> u64
     ensures { λ r. ⌜ r ≡ regionPixels tables field i line ⌝ }
     ensures { λ r. ⌜ r ≤ 4294901760 ⌝ }
@@ -209,16 +210,24 @@ pub fn region_pixels(tables: Tables, field: Field, i: usize, line: u16) -> u64
     lines_pixels(region.first, field.lines, field.last, sequence.length, line)
 }
 
-// The field's pixels.
-pub fn pixel_count(tables: Tables, field: Field) -> u64
-    ensures { λ r. ⌜ r ≡ pixelCount tables field ⌝ }
+// The size of region i.
+pub fn region_size(tables: Tables, field: Field, i: usize) -> u64
+    ensures { λ r. ⌜ r ≡ regionSize tables field i ⌝ }
+    ensures { λ r. ⌜ r ≤ 4294901760 ⌝ }
 {
-    let lines = field.lines as u64;
-    let mut line = 0u64;
+    region_pixels(tables, field, i, end_line(field, i))
+}
+
+// The pixels of all regions: the field's, where its regions are in order.
+pub fn pixel_count(tables: Tables, field: Field) -> u64
+    ensures { λ r. ⌜ r ≡ regionsPixels tables field ⌝ }
+{
+    let count = region_count(field);
+    let mut i = 0usize;
     let mut pixels = 0u64;
-    while line < lines {
-        pixels += line_length(tables, field, line) as u64;
-        line += 1;
+    while i < count {
+        pixels += region_size(tables, field, i);
+        i += 1;
     }
     pixels
 }

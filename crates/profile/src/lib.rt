@@ -22,6 +22,7 @@ pub use geometry::region_at;
 pub use geometry::region_count;
 pub use geometry::region_of;
 pub use geometry::region_pixels;
+pub use geometry::region_size;
 pub use geometry::repetitions;
 pub use geometry::sequence_at;
 pub use geometry::sequence_of;

@@ -10,7 +10,6 @@ use crate::Subck;
 use crate::Tables;
 use crate::Verdict;
 use crate::accept;
-use crate::geometry::end_line;
 use crate::geometry::gate_length;
 use crate::geometry::has_pixel;
 use crate::geometry::has_second_line;
@@ -19,7 +18,7 @@ use crate::geometry::product;
 use crate::geometry::region_at;
 use crate::geometry::region_count;
 use crate::geometry::region_of;
-use crate::geometry::region_pixels;
+use crate::geometry::region_size;
 use crate::geometry::repetitions;
 use crate::geometry::sequence_of;
 use crate::patterns::highest_used;
@@ -220,7 +219,7 @@ fn region_verdict(tables: Tables, field: Field, i: usize) -> Verdict
     let sequence = sequence_of(tables, region.sequence);
     let registers = tables.registers;
     let pattern = pattern_of(registers, sequence.pattern);
-    let size = region_pixels(tables, field, i, end_line(field, i));
+    let size = region_size(tables, field, i);
     sequence_verdict(i, mode, sequence, pattern, size)
 }
 

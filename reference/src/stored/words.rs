@@ -367,4 +367,27 @@ fn places(batch: &mut Batch) {
     for n in 0..20 {
         batch.locate(&with(&profile_a(), |p| p.field.last = 9), n);
     }
+    every_pixel(batch);
+}
+
+/// Where each pixel of a field lies, and two past its end. The field's last line
+/// is shorter than the others of its region, as long, longer, and longer than
+/// several of them; it has a region of its own, or not.
+fn every_pixel(batch: &mut Batch) {
+    let firsts: [&[u16]; 5] = [&[0], &[0, 1], &[0, 4], &[0, 2, 3], &[0, 1, 2, 3, 4]];
+    for last in [1, 3, 4, 7, 13] {
+        for first in firsts {
+            let p = with(&profile_a(), |p| {
+                let lengths = [3, 1, 4, 6, 2];
+                let regions: Vec<Region> = (0..first.len()).map(|i| region(first[i], i as u16, Mode::Plain)).collect();
+                for (i, length) in lengths.into_iter().enumerate() {
+                    p.sequences[i] = sequence(0, length, 0, 0, 0, 0);
+                }
+                p.field = field(5, last, 0, NO_SECOND, &regions);
+            });
+            for n in 0..crate::list::pixels(&p) + 2 {
+                batch.locate(&p, n);
+            }
+        }
+    }
 }

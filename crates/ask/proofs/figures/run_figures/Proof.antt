@@ -13,4 +13,4 @@ pub run-figures-spec : {M : Type 1} → statement M
 run-figures-spec =
     tie.close
     (tie.spec (λ c κs. search needs) (λ c κs. search needs) (λ c κs. search needs) (λ c κs. search needs) (λ c κs. search needs)
-    (λ c κs. search needs) returns)
+    returns)

@@ -8,4 +8,4 @@ pub region-verdict-spec : {M : Type 1} → statement M
 region-verdict-spec =
     tie.close
     (tie.spec (λ c κs. search needs) (λ c κs. search needs) (λ c κs. search needs) (λ c κs. search needs) (λ c κs. search needs)
-    (λ c κs. search needs) (λ c. cc))
+    (λ c. cc))
