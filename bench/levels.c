@@ -33,6 +33,7 @@ int main(void) {
     for (int i = 0; i < 4095; i++) {
         l.pattern = pattern_at(n);
         l.pattern.levels = (n[0] % 64 + i % 64) % 64;
+        l.odd = odd_outputs(&l.pattern);
         l.origin = i * 4095;
         for (int j = 0; j < 4095; j++) out[j] = word_of(&l, j);
         for (int j = 0; j < 4095; j++) sum += (uint64_t)out[j] * (j + 1);

@@ -246,6 +246,7 @@ static line line_of(const region *r, unsigned n) {
     bool at_gate = n == the_field.gate || n == the_field.gate2;
     unsigned subck_from = the_field.gate + c->suppressed;
     line l = {.mode = r->mode, .pattern = pattern_of(s->pattern), .start = s->start, .repetitions = s->counts[n % 2]};
+    l.odd = odd_outputs(&l.pattern);
     l.origin = (n - r->first) * s->length;
     l.mask1 = (mask){s->mask & 1, l.pattern.pairs[0], l.pattern.pairs[1]};
     l.mask2 = (mask){s->mask >> 1 & 1, l.pattern.pairs[2], l.pattern.pairs[3]};

@@ -1,4 +1,4 @@
-// The word of a line at a pixel in plain C, written from the rules and not from the Rattle code: the two programs here share it.
+// The word of a line at a pixel in plain C, by the newest rules only, written from them and not from the Rattle code: the programs here share it.
 #include <stdbool.h>
 #include <stdint.h>
 
@@ -13,6 +13,7 @@ typedef struct { uint16_t level, from, to; } span;
 typedef struct {
     enum mode mode;
     pattern pattern;
+    uint16_t odd; // the outputs with one or three used toggles, by odd_outputs
     uint16_t start;
     uint32_t origin;
     uint16_t repetitions;
@@ -22,6 +23,14 @@ typedef struct {
     pulse gates[5], subck;
     span mshut, strobe;
 } line;
+
+// Which outputs a whole run flips, in plain and sweep: those with an odd number of used toggles.
+static uint16_t odd_outputs(const pattern *a) {
+    uint16_t odd = 0;
+    for (int i = 0; i < 18; i++)
+        if (a->toggles[i] < a->length) odd ^= 1 << i / 3;
+    return odd;
+}
 
 // The second pattern: from the pixel equal to its length, a flip for each used toggle at or below pixel - length.
 static unsigned second_level(const pattern *a, int k, uint64_t p) {
@@ -34,7 +43,8 @@ static unsigned second_level(const pattern *a, int k, uint64_t p) {
     return level;
 }
 
-// The first pattern: plain from the line's first pixel, sweep and multiplier from the region's.
+// The first pattern: plain from the line's first pixel, sweep and multiplier from the region's. In plain and sweep a run takes over the level the last one
+// ended with, and after the last run the level stays.
 static unsigned first_level(const line *l, int k, uint64_t p) {
     const pattern *a = &l->pattern;
     unsigned level = a->levels >> k & 1;
@@ -48,10 +58,13 @@ static unsigned first_level(const line *l, int k, uint64_t p) {
         }
     } else if (t < (uint64_t)l->repetitions * a->length) {
         uint64_t u = t % a->length;
+        level ^= l->odd >> k & t / a->length & 1;
         for (int i = 0; i < 3; i++) {
             uint16_t x = a->toggles[3 * k + i];
             if (x < a->length && x <= u) level ^= 1;
         }
+    } else {
+        level ^= l->odd >> k & l->repetitions & 1;
     }
     return level;
 }

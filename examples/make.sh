@@ -69,7 +69,15 @@ interlaced() {
   subck 1 24 30 1 1
 }
 
+# Runs that flip: V1 starts high, has one used toggle, at 2, and runs twice on a line of 8. The second run takes over the level that the first ended with.
+flips() {
+  pattern 0 4 1 2
+  sequence 0 0 8 0 2 2 0
+  field 1 8 0 $none 0 0 $plain
+}
+
 base > "$out/base.bin"
 clearing 30 > "$out/sweep.bin"
 clearing 31 > "$out/refused.bin"
 interlaced > "$out/interlaced.bin"
+flips > "$out/flips.bin"

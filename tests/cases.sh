@@ -1,6 +1,6 @@
 #!/usr/bin/env bash
 # Asks the entry points and a second implementation, reference/, the same questions and compares every answer, byte by byte: the stored batch, and
-# a random one with a fresh seed (CASES_SEED=N repeats one). Then breaks one rule in each of four copies of the second implementation, which must be noticed.
+# a random one with a fresh seed (CASES_SEED=N repeats one). Then breaks one rule in each of five copies of the second implementation, which must be noticed.
 set -u
 cd "$(dirname "$0")/.." || exit 1
 program=$PWD/target/bin/cases
@@ -60,6 +60,7 @@ broken "10 names the highest output out of order" rules.rs 's/(1\.\.=OUTPUTS)\.f
 broken "gates and the second pattern act on the first gate line alone" word.rs 's/gate_lines(profile)\.any/gate_lines(profile).take(1).any/'
 
 broken "a field pixel is looked for as if the last line had its sequence's length" word.rs 's/let length = line_length(profile, line);/let length = profile.sequence_of(region_of_line(profile, line)).length as u64;/'
+broken "after the last run the level returns, by version 2 too" word.rs 's/let ended = if running { t \/ length } else { r };/let ended = if running { t \/ length } else { 0 };/'
 
 # a batch at fault: one line on standard error, and no answer
 fault() {
@@ -72,6 +73,8 @@ fault "a payload cut off" 'R\3\0\0\0ab'
 fault "a payload too long" 'R\1\0\1\0'
 fault "a kind that is none" 'X\0\0\0\0'
 fault "a profile too short" 'C\2\0\0\0ab'
+fault "a text without a whole version" 'T\1\0\0\0a'
+fault "a text of a script too long" "T\103\234\0\0$(printf %40003s)"
 fault "lists shorter than they say" 'P\30\0\0\0\1\0\0\0\0\0\0\0\0\0\0\0\0\0\0\0\0\0\0\0\0\0\0\0'
 timeout 20 "$program" < . > "$work/out" 2> "$work/err"
 [ ! -s "$work/out" ] && [ "$(cat "$work/err")" == "cases: cannot read standard input" ] || fail "a directory: said '$(head -c 100 "$work/err")'"

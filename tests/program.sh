@@ -55,8 +55,12 @@ run < examples/base.bin; check "base.bin" "$w1"
 run < examples/refused.bin; check "refused.bin" "refused 13 0"
 run < examples/sweep.bin; head -n 1 "$work/out" > "$work/line"; mv "$work/line" "$work/out"; check "sweep.bin" "steps 142 pixels 230"
 run < examples/interlaced.bin; head -n 1 "$work/out" > "$work/line"; mv "$work/line" "$work/out"; check "interlaced.bin" "steps 43 pixels 240"
+run < examples/flips.bin; check "flips.bin" "steps 3 pixels 8
+2 0FC1
+4 0FC0
+2 0FC1"
 bash examples/make.sh "$work" > "$work/out" 2> "$work/err"
-for name in base sweep refused interlaced; do cmp "examples/$name.bin" "$work/$name.bin" >> "$work/out"; done
+for name in base sweep refused interlaced flips; do cmp "examples/$name.bin" "$work/$name.bin" >> "$work/out"; done
 check "make.sh" ""
 
 # ask: a question on the first line, then a script. For a line that is no question nothing is printed.

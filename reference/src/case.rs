@@ -1,11 +1,12 @@
 //! The batch format of tests/cases/FORMAT.md: cases as bytes, answers as text.
 
-use crate::list::{compile, play, Compiled};
+use crate::list::{compile_by, play, Compiled};
 use crate::profile::{Profile, NUMBERS};
 use crate::refusal::Refusal;
 use crate::rules::check;
 use crate::script::{read, write};
-use crate::word::{level, locate};
+use crate::text::text_by;
+use crate::word::{level_by, locate};
 use std::fmt::{Display, Write as _};
 
 /// "payload of at most 65,536 bytes"
@@ -13,16 +14,17 @@ pub const PAYLOAD_MOST: usize = 65_536;
 pub const SCRIPT_MOST_IN_A_CASE: usize = 40_000;
 pub const ENTRIES_MOST: usize = 4096;
 
-/// One question to one entry point.
+/// One question to one entry point. A version may be any number.
 #[derive(Clone, PartialEq, Eq, Debug)]
 pub enum Case {
     Read { script: Vec<u8> },
     Check { profile: Profile },
     Write { profile: Profile, slice: Vec<u8> },
-    Level { profile: Profile, line: u64, pixel: u64 },
+    Level { profile: Profile, version: u16, line: u64, pixel: u64 },
     Locate { profile: Profile, n: u64 },
-    Compile { profile: Profile, counts: Vec<u32>, words: Vec<u16> },
+    Compile { profile: Profile, version: u16, counts: Vec<u32>, words: Vec<u16> },
     Play { counts: Vec<u32>, words: Vec<u16>, used: u64, position: u64 },
+    Text { version: u16, script: Vec<u8> },
 }
 
 // ---------------------------------------------------------------------------
@@ -38,6 +40,7 @@ impl Case {
             Case::Locate { .. } => 'N',
             Case::Compile { .. } => 'K',
             Case::Play { .. } => 'P',
+            Case::Text { .. } => 'T',
         }
     }
 
@@ -54,17 +57,15 @@ impl Case {
     fn payload(&self) -> Vec<u8> {
         let mut out = Vec::new();
         match self {
-            Case::Read { script } => {
-                assert!(script.len() <= SCRIPT_MOST_IN_A_CASE, "a script over its limit");
-                out.extend(script);
-            }
+            Case::Read { script } => put_script(&mut out, script),
             Case::Check { profile } => put_profile(&mut out, profile),
             Case::Write { profile, slice } => {
                 put_profile(&mut out, profile);
                 out.extend(slice);
             }
-            Case::Level { profile, line, pixel } => {
+            Case::Level { profile, version, line, pixel } => {
                 put_profile(&mut out, profile);
+                out.extend(version.to_le_bytes());
                 out.extend(line.to_le_bytes());
                 out.extend(pixel.to_le_bytes());
             }
@@ -72,8 +73,9 @@ impl Case {
                 put_profile(&mut out, profile);
                 out.extend(n.to_le_bytes());
             }
-            Case::Compile { profile, counts, words } => {
+            Case::Compile { profile, version, counts, words } => {
                 put_profile(&mut out, profile);
+                out.extend(version.to_le_bytes());
                 put_lengths(&mut out, counts, words);
                 put_lists(&mut out, counts, words);
             }
@@ -83,9 +85,18 @@ impl Case {
                 out.extend(position.to_le_bytes());
                 put_lists(&mut out, counts, words);
             }
+            Case::Text { version, script } => {
+                out.extend(version.to_le_bytes());
+                put_script(&mut out, script);
+            }
         }
         out
     }
+}
+
+fn put_script(out: &mut Vec<u8>, script: &[u8]) {
+    assert!(script.len() <= SCRIPT_MOST_IN_A_CASE, "a script over its limit");
+    out.extend(script);
 }
 
 fn put_profile(out: &mut Vec<u8>, profile: &Profile) {
@@ -125,21 +136,22 @@ pub fn decode_batch(batch: &[u8]) -> Option<Vec<Case>> {
 fn decode(kind: u8, payload: &[u8]) -> Option<Case> {
     let mut rest = Bytes { left: payload };
     let case = match kind {
-        b'R' => Case::Read { script: rest.all() },
+        b'R' => Case::Read { script: rest.script()? },
         b'C' => Case::Check { profile: rest.profile()? },
         b'W' => Case::Write { profile: rest.profile()?, slice: rest.all() },
-        b'L' => Case::Level { profile: rest.profile()?, line: rest.u64()?, pixel: rest.u64()? },
+        b'L' => Case::Level { profile: rest.profile()?, version: rest.u16()?, line: rest.u64()?, pixel: rest.u64()? },
         b'N' => Case::Locate { profile: rest.profile()?, n: rest.u64()? },
         b'K' => {
-            let profile = rest.profile()?;
+            let (profile, version) = (rest.profile()?, rest.u16()?);
             let (counts, words) = (rest.u32()?, rest.u32()?);
-            Case::Compile { profile, counts: rest.u32s(counts)?, words: rest.u16s(words)? }
+            Case::Compile { profile, version, counts: rest.u32s(counts)?, words: rest.u16s(words)? }
         }
         b'P' => {
             let (counts, words) = (rest.u32()?, rest.u32()?);
             let (used, position) = (rest.u64()?, rest.u64()?);
             Case::Play { counts: rest.u32s(counts)?, words: rest.u16s(words)?, used, position }
         }
+        b'T' => Case::Text { version: rest.u16()?, script: rest.script()? },
         _ => return None,
     };
     if rest.left.is_empty() {
@@ -163,6 +175,15 @@ impl<'a> Bytes<'a> {
 
     fn all(&mut self) -> Vec<u8> {
         std::mem::take(&mut self.left).to_vec()
+    }
+
+    /// All that is left, where a script may be that long.
+    fn script(&mut self) -> Option<Vec<u8>> {
+        if self.left.len() <= SCRIPT_MOST_IN_A_CASE {
+            Some(self.all())
+        } else {
+            None
+        }
     }
 
     fn u16(&mut self) -> Option<u16> {
@@ -213,8 +234,8 @@ pub fn answer(k: usize, case: &Case) -> String {
             }
             out.push('\n');
         }
-        Case::Level { profile, line, pixel } => {
-            let word = level(profile, *line, *pixel);
+        Case::Level { profile, version, line, pixel } => {
+            let word = level_by(*version, profile, *line, *pixel);
             put_line(&mut out, head(&word).into_iter().chain([word.unwrap_or(0) as u64]));
         }
         Case::Locate { profile, n } => {
@@ -222,9 +243,9 @@ pub fn answer(k: usize, case: &Case) -> String {
             let (line, pixel) = place.unwrap_or((0, 0));
             put_line(&mut out, head(&place).into_iter().chain([line, pixel]));
         }
-        Case::Compile { profile, counts, words } => {
+        Case::Compile { profile, version, counts, words } => {
             let (mut counts, mut words) = (counts.clone(), words.clone());
-            let compiled = compile(profile, &mut counts, &mut words);
+            let compiled = compile_by(*version, profile, &mut counts, &mut words);
             let Compiled { steps, pixels } = compiled.unwrap_or(Compiled { steps: 0, pixels: 0 });
             put_line(&mut out, head(&compiled).into_iter().chain([steps, pixels]));
             put_line(&mut out, counts);
@@ -234,6 +255,7 @@ pub fn answer(k: usize, case: &Case) -> String {
             let word = play(counts, words, *used, *position);
             put_line(&mut out, head(&word).into_iter().chain([word.unwrap_or(0) as u64]));
         }
+        Case::Text { version, script } => out += &text_by(*version, script),
     }
     out
 }

@@ -1,16 +1,19 @@
 //! A second implementation of document 01 ("What will be built, and the
-//! rules", the output and toggle that refusal 10 names, and a second gate line
-//! of the field), written from the papers alone. It is there to be compared with: clear before fast, and total:
-//! every entry point has an answer for any bytes, any numbers in a profile
-//! handed in, any line, pixel and position.
+//! rules", the output and toggle that refusal 10 names, a second gate line of
+//! the field, and runs that flip), written from the papers alone. It is there to
+//! be compared with: clear before fast, and total: every entry point has an
+//! answer for any bytes, any numbers in a profile handed in, any line, pixel,
+//! position and rule version.
 //!
 //! - `profile`: the profile and its parts, and their raw order
 //! - `refusal`: the numbers of refusal
 //! - `ranges`:  refusal 5 for items of a profile
 //! - `rules`:   refusals 6 to 17, and the check
 //! - `script`:  reading and writing
+//! - `version`: the rule versions
 //! - `word`:    the word at a line and pixel, and the place of a field pixel
 //! - `list`:    compiling and playing a hold list
+//! - `text`:    what the program prints
 //! - `case`:    the batch format and the printed answers
 //! - `make`, `stored`, `random`: the batches
 
@@ -24,6 +27,8 @@ pub mod refusal;
 pub mod rules;
 pub mod script;
 pub mod stored;
+pub mod text;
+pub mod version;
 pub mod word;
 
 #[cfg(test)]

@@ -3,6 +3,7 @@
 use crate::profile::Profile;
 use crate::refusal::*;
 use crate::rules::{check, line_length};
+use crate::version::NEWEST;
 use crate::word::Line;
 
 /// What a compile that answers 0 reports.
@@ -14,17 +15,22 @@ pub struct Compiled {
     pub pixels: u64,
 }
 
-/// Compiles the field into the two lent lists. "room is the shorter length";
-/// too little is 18 with "the fewest [steps] of any list that plays the field",
-/// its number of runs of equal words. Entries past the used ones are kept, and
-/// at a refusal all are.
+/// Compiles the field into the two lent lists by the newest rules.
 pub fn compile(profile: &Profile, counts: &mut [u32], words: &mut [u16]) -> Result<Compiled, Refusal> {
+    compile_by(NEWEST, profile, counts, words)
+}
+
+/// Compiles the field by a rule version. "room is the shorter length"; too
+/// little is 18 with "the fewest [steps] of any list that plays the field", its
+/// number of runs of equal words. Entries past the used ones are kept, and at a
+/// refusal all are.
+pub fn compile_by(version: u16, profile: &Profile, counts: &mut [u32], words: &mut [u16]) -> Result<Compiled, Refusal> {
     check(profile)?;
     let room = counts.len().min(words.len());
-    let needed = steps_needed(profile);
+    let needed = steps_needed(version, profile);
     demand(needed <= room, NO_ROOM, needed)?;
     let mut i = 0;
-    for_each_run(profile, |count, word| {
+    for_each_run(version, profile, |count, word| {
         counts[i] = count;
         words[i] = word;
         i += 1;
@@ -32,10 +38,10 @@ pub fn compile(profile: &Profile, counts: &mut [u32], words: &mut [u16]) -> Resu
     Ok(Compiled { steps: needed as u64, pixels: pixels(profile) })
 }
 
-/// The runs of an accepted profile's field.
-pub fn steps_needed(profile: &Profile) -> usize {
+/// The runs of equal words of an accepted profile's field, by a rule version.
+pub fn steps_needed(version: u16, profile: &Profile) -> usize {
     let mut runs = 0;
-    for_each_run(profile, |_, _| runs += 1);
+    for_each_run(version, profile, |_, _| runs += 1);
     runs
 }
 
@@ -46,11 +52,11 @@ pub fn pixels(profile: &Profile) -> u64 {
 
 /// Hands on each run of equal words, through line ends and region seams:
 /// "equal words at a seam share one step".
-fn for_each_run(profile: &Profile, mut hand_on: impl FnMut(u32, u16)) {
+fn for_each_run(version: u16, profile: &Profile, mut hand_on: impl FnMut(u32, u16)) {
     let mut count = 0;
     let mut held = 0;
     for number in 0..profile.field.lines as u64 {
-        let line = Line::new(profile, number);
+        let line = Line::new(version, profile, number);
         for pixel in 0..line.length() {
             let word = line.word(pixel);
             if count != 0 && word != held {

@@ -24,6 +24,11 @@ pub const BREAKS_AT_3: [[u16; 3]; 6] = [[1, 4095, 3], [1, 4095, 0], [4095, 4095,
 /// Freeze and resume pairs of a pattern that no mask turns on.
 pub const NO_PAIRS: [u16; 4] = [0; 4];
 
+/// The rule versions.
+pub const VERSIONS: [u16; 2] = [1, 2];
+/// Numbers that are no version: 0 acts as 1, the others act as 2.
+pub const OTHER_VERSIONS: [u16; 3] = [0, 3, 65_535];
+
 /// A copy of a profile with an edit.
 pub fn with(profile: &Profile, edit: impl FnOnce(&mut Profile)) -> Profile {
     let mut copy = *profile;

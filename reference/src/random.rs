@@ -1,5 +1,6 @@
 //! Random batches. Valid profiles are built so that the rules hold, then
-//! sometimes one number is moved, bytes are damaged, or a script is cut.
+//! sometimes one number is moved, bytes are damaged, or a script is cut. What
+//! depends on the rule version names one.
 
 use crate::case::{Case, ENTRIES_MOST, SCRIPT_MOST_IN_A_CASE};
 use crate::list::steps_needed;
@@ -17,17 +18,24 @@ pub fn cases(seed: u64, count: u64) -> Vec<Case> {
 
 fn case(rng: &mut Rng) -> Case {
     match rng.below(100) {
-        0..=24 => Case::Read { script: script(rng) },
-        25..=39 => Case::Check { profile: any_profile(rng) },
-        40..=46 => {
+        0..=20 => read_case(rng),
+        21..=33 => Case::Check { profile: any_profile(rng) },
+        34..=39 => {
             let profile = any_profile(rng);
             Case::Write { profile, slice: slice(rng, &profile) }
         }
-        47..=60 => level_case(rng),
-        61..=68 => locate_case(rng),
-        69..=89 => compile_case(rng),
+        40..=57 => level_case(rng),
+        58..=65 => locate_case(rng),
+        66..=84 => compile_case(rng),
+        85..=91 => text_case(rng),
         _ => play_case(rng),
     }
+}
+
+/// Most often one of the two rule versions; else what acts as one of them.
+fn version(rng: &mut Rng) -> u16 {
+    let from: &[u16] = if rng.percent(95) { &VERSIONS } else { &OTHER_VERSIONS };
+    rng.pick(from)
 }
 
 // ---------------------------------------------------------------------------
@@ -251,9 +259,22 @@ fn sequence_mut(p: &mut Profile, i: usize) -> &mut Sequence {
 fn fill_plain(rng: &mut Rng, p: &mut Profile, i: usize) {
     let s = sequence_mut(p, i);
     let line = s.length as u64;
-    let (pattern, length) = (s.pattern, rng.edgy(1, (line + 3).min(4095)).min(rng.edgy(1, 4095)));
-    s.start = if rng.percent(10) { rng.below(4096) } else { rng.below(line.div_ceil(2) + 1) } as u16;
-    let most = if rng.percent(10) { 4095 } else { line / length + 2 };
+    let pattern = s.pattern;
+    // A few runs that end on the line, or any.
+    let few = rng.percent(60);
+    let longest = if few { (line / rng.between(2, 8)).max(1) } else { line + 3 };
+    let length = rng.edgy(1, longest.min(4095)).min(rng.edgy(1, 4095));
+    s.start = match rng.below(10) {
+        0 => rng.below(4096),
+        1..=4 => rng.below(4),
+        _ => rng.below(line.div_ceil(2) + 1),
+    } as u16;
+    let most = match rng.below(10) {
+        0 => 4095,
+        1 => 5,
+        _ if few => (line / length).min(5),
+        _ => line / length + 2,
+    };
     s.odd = rng.edgy(0, most.min(4095)) as u16;
     s.even = rng.edgy(0, most.min(4095)) as u16;
     s.mask = rng.pick(&[0, 0, 1, 2, 3]);
@@ -268,7 +289,11 @@ fn fill_sweep(rng: &mut Rng, p: &mut Profile, i: usize, size: u64) {
     let s = sequence_mut(p, i);
     let (start, length) = start_and_length(rng, size);
     let most = ((size - start) / length).min(4095);
-    let count = if rng.percent(30) { most } else { rng.edgy(0, most) };
+    let count = match rng.below(10) {
+        0..=2 => most,
+        3..=6 => rng.edgy(0, most.min(5)),
+        _ => rng.edgy(0, most),
+    };
     *s = Sequence { start: start as u16, odd: count as u16, even: count as u16, ..*s };
     let pattern = s.pattern as usize;
     let toggles = toggles_below(rng, length);
@@ -319,11 +344,18 @@ fn toggles_to(rng: &mut Rng, highest: u64) -> [[u16; 3]; 6] {
     toggles
 }
 
-/// At most three numbers below a limit, rising strictly.
+/// At most three numbers below a limit, rising strictly. One and three are most
+/// frequent: with them a run ends at another level than it began with.
 fn rising(rng: &mut Rng, limit: u64) -> Vec<u16> {
-    let mut used: Vec<u16> = (0..rng.below(4)).map(|_| rng.edgy(0, limit - 1) as u16).collect();
+    let count = rng.pick(&[0, 1, 1, 1, 2, 3, 3, 3]).min(limit) as usize;
+    let mut used = Vec::new();
+    while used.len() < count {
+        let toggle = rng.edgy(0, limit - 1) as u16;
+        if !used.contains(&toggle) {
+            used.push(toggle);
+        }
+    }
     used.sort();
-    used.dedup();
     used
 }
 
@@ -617,19 +649,20 @@ fn break_second(rng: &mut Rng, p: &mut Profile) {
     let second = p.field.second;
     let line = a_gate_line(rng, p);
     let region = region_of_line(p, line);
-    match rng.below(9) {
-        0 | 1 => {
+    match rng.below(14) {
+        0..=4 => {
             let (most, shortest) = (line_length(p, line), shortest_gate_line(p));
-            let length = rng.pick(&[0, 1, most - 1, most, shortest, shortest, p.pattern(second).length.saturating_sub(1)]);
+            let shorter = p.pattern(second).length.saturating_sub(1);
+            let length = rng.pick(&[0, 1, most - 1, most - 1, most, shortest, shortest, shortest, shorter]);
             set_length(p, second as usize, length as u16);
         }
-        2 => break_toggles(rng, p, second as usize),
-        3 | 4 => {
+        5 => break_toggles(rng, p, second as usize),
+        6 | 7 => {
             let most = most_before(p, line, p.pattern(second).length);
             *count_mut(p, line) = (most + rng.below(2) as u16).min(4095);
         }
-        5 | 6 => p.field.gate = another_line(rng, p.field.lines.max(2) as u64, p.field.gate as u64),
-        7 => p.field.gate2 = another_line(rng, p.field.lines.max(2) as u64, p.field.gate as u64),
+        8 | 9 => p.field.gate = another_line(rng, p.field.lines.max(2) as u64, p.field.gate as u64),
+        10 => p.field.gate2 = another_line(rng, p.field.lines.max(2) as u64, p.field.gate as u64),
         // Only the mode of the region is wrong for a second pattern.
         _ => {
             let count = repetitions(p.sequence_of(region), line) as u16;
@@ -712,8 +745,8 @@ fn wild(rng: &mut Rng, p: &Profile) -> Profile {
 // ---------------------------------------------------------------------------
 // Scripts
 
-fn script(rng: &mut Rng) -> Vec<u8> {
-    let mut records = script_records(rng);
+fn script(rng: &mut Rng, size: Size) -> Vec<u8> {
+    let mut records = script_records(rng, size);
     match rng.below(40) {
         0..=21 => records.concat(),
         22..=26 => cut(rng, records.concat()),
@@ -732,10 +765,10 @@ fn script(rng: &mut Rng) -> Vec<u8> {
 }
 
 /// The records of a profile in any order, some of them said before otherwise.
-fn script_records(rng: &mut Rng) -> Vec<Vec<u8>> {
-    let mut p = any_profile(rng);
+fn script_records(rng: &mut Rng, size: Size) -> Vec<Vec<u8>> {
+    let mut p = profile_of(rng, size);
     while check_ranges(&p).is_err() {
-        p = any_profile(rng);
+        p = profile_of(rng, size);
     }
     let mut list = if rng.percent(20) { records(&p) } else { short_records(&p) };
     if rng.percent(40) {
@@ -837,20 +870,53 @@ fn slice(rng: &mut Rng, p: &Profile) -> Vec<u8> {
 
 fn level_case(rng: &mut Rng) -> Case {
     let profile = any_profile(rng);
+    let (line, pixel) = if check(&profile).is_ok() && rng.percent(60) {
+        place_at_a_run(rng, &profile)
+    } else {
+        any_place(rng, &profile)
+    };
+    Case::Level { profile, version: version(rng), line, pixel }
+}
+
+fn any_place(rng: &mut Rng, p: &Profile) -> (u64, u64) {
     let line = match rng.below(12) {
         0 => rng.wide(1),
-        1 => profile.field.lines as u64,
-        2..=4 => a_gate_line(rng, &profile),
-        5 => profile.field.lines.saturating_sub(1) as u64,
-        _ => rng.edgy(0, profile.field.lines.saturating_sub(1) as u64),
+        1 => p.field.lines as u64,
+        2..=4 => a_gate_line(rng, p),
+        5 => p.field.lines.saturating_sub(1) as u64,
+        _ => rng.edgy(0, p.field.lines.saturating_sub(1) as u64),
     };
-    let length = length_or_9(&profile, line);
+    let length = length_or_9(p, line);
     let pixel = match rng.below(12) {
         0 => rng.wide(0),
         1 => length,
         _ => rng.edgy(0, length - 1),
     };
-    Case::Level { profile, line, pixel }
+    (line, pixel)
+}
+
+/// Where a repetition of a region's pattern begins or the run has ended, and the
+/// pixel before; else the last one of the line or region that it is cut by.
+fn place_at_a_run(rng: &mut Rng, p: &Profile) -> (u64, u64) {
+    // Sweeps are fewer than plain regions, and asked more often.
+    let times = |i: usize| if p.field.regions[i].mode == Mode::Sweep { 3 } else { 1 };
+    let regions: Vec<usize> = (0..p.field.count as usize).flat_map(|i| vec![i; times(i)]).collect();
+    let i = rng.pick(&regions);
+    let (first, s) = (p.field.regions[i].first as u64, p.sequence_of(i));
+    let last = if i + 1 < p.field.count as usize { p.field.regions[i + 1].first } else { p.field.lines } as u64 - 1;
+    let line = rng.between(first, last);
+    let count = repetitions(s, line);
+    let before = if rng.percent(40) { count } else { rng.edgy(0, count) };
+    let edge = s.start as u64 + before * p.pattern(s.pattern).length;
+    let from = edge.saturating_sub(rng.below(2));
+    match p.field.regions[i].mode {
+        Mode::Plain => (line, from.min(line_length(p, line) - 1)),
+        Mode::Sweep | Mode::Multiplier => {
+            let from = from.min(region_size(p, i) - 1);
+            let line = (first + from / s.length as u64).min(last);
+            (line, from - (line - first) * s.length as u64)
+        }
+    }
 }
 
 /// A line's length, where the profile and the line have one.
@@ -862,6 +928,16 @@ fn length_or_9(p: &Profile, line: u64) -> u64 {
     }
 }
 
+fn read_case(rng: &mut Rng) -> Case {
+    let size = size(rng);
+    Case::Read { script: script(rng, size) }
+}
+
+fn text_case(rng: &mut Rng) -> Case {
+    let size = size_to_compile(rng);
+    Case::Text { version: version(rng), script: script(rng, size) }
+}
+
 fn locate_case(rng: &mut Rng) -> Case {
     let profile = any_profile(rng);
     let pixels = if check(&profile).is_ok() { crate::list::pixels(&profile) } else { 20 };
@@ -871,6 +947,7 @@ fn locate_case(rng: &mut Rng) -> Case {
         2 => pixels - 1,
         3..=5 => pixels_before(&profile, a_region_start(rng, &profile)).saturating_sub(rng.below(2)),
         6 => pixels_before(&profile, profile.field.lines.saturating_sub(1)) + rng.below(3),
+        7 => pixels_before(&profile, rng.below(profile.field.lines.max(1) as u64) as u16),
         _ => rng.edgy(0, pixels - 1),
     };
     Case::Locate { profile, n }
@@ -892,10 +969,10 @@ fn pixels_before(p: &Profile, line: u16) -> u64 {
 
 fn compile_case(rng: &mut Rng) -> Case {
     let size = size_to_compile(rng);
-    let profile = profile_of(rng, size);
+    let (profile, version) = (profile_of(rng, size), version(rng));
     let accepted = check(&profile).is_ok();
     let needed = match (accepted, size.lines == FULL.lines) {
-        (true, false) => steps_needed(&profile).min(ENTRIES_MOST - 30) as u64,
+        (true, false) => steps_needed(version, &profile).min(ENTRIES_MOST - 30) as u64,
         (true, true) => ENTRIES_MOST as u64 - 30,
         (false, _) => 5,
     };
@@ -907,7 +984,7 @@ fn compile_case(rng: &mut Rng) -> Case {
     };
     let counts = room(rng);
     let words = if rng.percent(40) { counts } else { room(rng) };
-    Case::Compile { profile, counts: random_counts(rng, counts), words: random_words(rng, words) }
+    Case::Compile { profile, version, counts: random_counts(rng, counts), words: random_words(rng, words) }
 }
 
 fn random_counts(rng: &mut Rng, length: usize) -> Vec<u32> {

@@ -2,15 +2,17 @@
 
 mod gate_lines;
 mod places;
+mod runs;
 
 use crate::case::{answer, decode_batch, Case};
-use crate::list::{compile, play, Compiled};
+use crate::list::{compile, compile_by, play, Compiled};
 use crate::make::*;
 use crate::profile::*;
 use crate::refusal::{refusal, Refusal};
 use crate::rules::check;
 use crate::script::{read, records, write};
-use crate::word::{level, locate};
+use crate::version::NEWEST;
+use crate::word::{level, level_by, locate};
 use crate::{random, stored};
 use std::collections::BTreeSet;
 
@@ -25,13 +27,22 @@ fn out_of_order<T>(place: usize, output: usize, toggle: usize) -> Result<T, Refu
 
 /// The bits of one output over a line's pixels.
 fn output(p: &Profile, bit: u16, line: u64, pixels: u64) -> String {
-    (0..pixels).map(|pixel| if level(p, line, pixel).unwrap() >> bit & 1 == 1 { '1' } else { '0' }).collect()
+    output_by(NEWEST, p, bit, line, pixels)
+}
+
+fn output_by(version: u16, p: &Profile, bit: u16, line: u64, pixels: u64) -> String {
+    let word = |pixel: u64| level_by(version, p, line, pixel).unwrap();
+    (0..pixels).map(|pixel| if word(pixel) >> bit & 1 == 1 { '1' } else { '0' }).collect()
 }
 
 /// The steps of a compile with one entry to spare.
 fn steps(p: &Profile, room: usize) -> Vec<(u32, u16)> {
+    steps_by(NEWEST, p, room)
+}
+
+fn steps_by(version: u16, p: &Profile, room: usize) -> Vec<(u32, u16)> {
     let (mut counts, mut words) = (lent_counts(room + 1), lent_words(room));
-    let used = compile(p, &mut counts, &mut words).unwrap().steps as usize;
+    let used = compile_by(version, p, &mut counts, &mut words).unwrap().steps as usize;
     assert_eq!(counts[used..], lent_counts(room + 1)[used..]);
     assert_eq!(words[used..], lent_words(room)[used..]);
     counts[..used].iter().copied().zip(words[..used].iter().copied()).collect()
@@ -94,7 +105,8 @@ fn w12_no_such_pixel() {
 /// second pattern from pixel 4 on; the freeze holds pixel 2 up to pixel 5, on
 /// line 1 past the second's start. VSG1 is low at pixels 2 to 4 of line 1,
 /// SUBCK high from pixel 3 of line 2, MSHUT from line 0 pixel 6 to line 1
-/// pixel 1.
+/// pixel 1. V2 has one used toggle: its second run, which a freeze hides up to
+/// pixel 5, is low by version 1 and high by version 2.
 #[test]
 fn all_rules_on_three_lines() {
     let p = with(&Profile::empty(), |p| {
@@ -106,23 +118,17 @@ fn all_rules_on_three_lines() {
         p.subck = subck(0, 3, 9, 1, 1);
         p.shutters[0] = shutter(1, (0, 6), (1, 2));
     });
-    assert_eq!(output(&p, 0, 0, 8), "00111100");
-    assert_eq!(output(&p, 1, 1, 8), "10000011");
-    let twelve = [
-        (1, 0x07C2),
-        (1, 0x07C0),
-        (4, 0x07C1),
-        (1, 0x17C0),
-        (2, 0x17C2),
-        (1, 0x17C0),
-        (3, 0x0781),
-        (1, 0x07C1),
-        (3, 0x07C2),
-        (1, 0x07C0),
-        (1, 0x07C1),
-        (3, 0x0FC1),
-    ];
-    assert_eq!(steps(&p, 12), twelve);
+    for version in VERSIONS {
+        assert_eq!(output_by(version, &p, 0, 0, 8), "00111100");
+        assert_eq!(output_by(version, &p, 1, 1, 8), "10000011");
+    }
+    let before = [(1, 0x07C2), (1, 0x07C0), (4, 0x07C1)];
+    let after = [(1, 0x17C0), (3, 0x0781), (1, 0x07C1), (3, 0x07C2), (1, 0x07C0), (1, 0x07C1), (3, 0x0FC1)];
+    let from_pixel_6 = [vec![(1, 0x17C0), (2, 0x17C2)], vec![(3, 0x17C2)]];
+    for (version, steps) in VERSIONS.into_iter().zip(from_pixel_6) {
+        let all = [&before[..], &steps, &after].concat();
+        assert_eq!(steps_by(version, &p, all.len()), all);
+    }
 }
 
 /// On each output, with a higher one out of order too; the second pattern breaks
@@ -190,6 +196,21 @@ fn a_batch_reads_back() {
     }
 }
 
+/// A batch of one case, whose payload is some bytes.
+fn batch_of(kind: u8, payload: &[u8]) -> Vec<u8> {
+    [&[kind], &(payload.len() as u32).to_le_bytes()[..], payload].concat()
+}
+
+/// A text has a whole version, and a script of 0 to 40,000 bytes.
+#[test]
+fn a_text_at_fault() {
+    for (length, right) in [(0, false), (1, false), (2, true), (40_002, true), (40_003, false)] {
+        assert_eq!(decode_batch(&batch_of(b'T', &vec![0; length])).is_some(), right, "{length} bytes");
+    }
+    let payload = [&[3, 1][..], &script_a()].concat();
+    assert_eq!(decode_batch(&batch_of(b'T', &payload)), Some(vec![Case::Text { version: 0x103, script: script_a() }]));
+}
+
 /// What the first line of an answer says.
 #[derive(PartialEq, Eq, PartialOrd, Ord)]
 struct Head {
@@ -206,7 +227,7 @@ fn heads_of(cases: &[Case]) -> BTreeSet<Head> {
     let mut seen = BTreeSet::new();
     for (k, case) in cases.iter().enumerate() {
         let text = answer(k, case);
-        let head: Vec<u64> = text.lines().nth(1).unwrap().split(' ').map(|n| n.parse().unwrap()).collect();
+        let head = first_numbers(text.lines().nth(1).unwrap());
         let (number, output, toggle) = (head[0], head[2], head[3]);
         let place = if matches!(number, 2..=5 | 18) { 0 } else { head[1] };
         if number == 10 {
@@ -217,6 +238,20 @@ fn heads_of(cases: &[Case]) -> BTreeSet<Head> {
         seen.insert(Head { kind: case.kind(), number, place, output, toggle });
     }
     seen
+}
+
+/// The numbers of an answer's first line; of a program's text as the others say
+/// them: number, place, output and toggle.
+fn first_numbers(line: &str) -> Vec<u64> {
+    let mut parts: Vec<&str> = line.split(' ').collect();
+    match parts[0] {
+        "steps" => return vec![0; 4],
+        "refused" => parts.remove(0),
+        _ => "",
+    };
+    let mut numbers: Vec<u64> = parts.into_iter().map(|n| n.parse().unwrap()).collect();
+    numbers.resize(numbers.len().max(4), 0);
+    numbers
 }
 
 /// Whether 10 names toggles 2 and 3 of each output.
@@ -232,7 +267,16 @@ fn the_stored_batch_covers_every_refusal() {
     let seen = heads_of(&stored::cases());
     let of_rules = [0, 5, 6, 7, 8, 9, 10, 11, 12, 13, 14, 15, 16, 17];
     let has = |kind, number| seen.iter().any(|h| (h.kind, h.number) == (kind, number));
-    for (kind, more) in [('R', vec![1, 2, 3, 4]), ('C', vec![]), ('W', vec![18]), ('L', vec![19]), ('N', vec![19]), ('K', vec![18])] {
+    let of_kinds = [
+        ('R', vec![1, 2, 3, 4]),
+        ('C', vec![]),
+        ('W', vec![18]),
+        ('L', vec![19]),
+        ('N', vec![19]),
+        ('K', vec![18]),
+        ('T', vec![1, 2, 3, 4, 18]),
+    ];
+    for (kind, more) in of_kinds {
         for number in of_rules.into_iter().chain(more) {
             assert!(has(kind, number), "{kind} never answers {number}");
         }
@@ -284,19 +328,21 @@ fn random_cases_agree_with_themselves() {
                     assert_eq!(read(&records(profile).concat()), Ok(*profile));
                     assert_eq!(read(&short_script(profile)), Ok(*profile));
                 }
-                Case::Compile { profile, counts, words } => plays_its_field(profile, counts.clone(), words.clone()),
+                Case::Compile { profile, version, counts, words } => {
+                    plays_its_field(*version, profile, counts.clone(), words.clone());
+                }
                 _ => {}
             }
         }
     }
 }
 
-fn plays_its_field(profile: &Profile, mut counts: Vec<u32>, mut words: Vec<u16>) {
-    let Ok(Compiled { steps, pixels }) = compile(profile, &mut counts, &mut words) else { return };
+fn plays_its_field(version: u16, profile: &Profile, mut counts: Vec<u32>, mut words: Vec<u16>) {
+    let Ok(Compiled { steps, pixels }) = compile_by(version, profile, &mut counts, &mut words) else { return };
     let every = (pixels / 50).max(1);
     for n in (0..pixels).step_by(every as usize).chain([pixels - 1]) {
         let (line, pixel) = locate(profile, n).unwrap();
-        assert_eq!(play(&counts, &words, steps, n), level(profile, line, pixel));
+        assert_eq!(play(&counts, &words, steps, n), level_by(version, profile, line, pixel));
     }
     assert_eq!(play(&counts, &words, steps, pixels), refused(19, 0));
 }

@@ -3,12 +3,19 @@
 use crate::profile::*;
 use crate::refusal::*;
 use crate::rules::*;
+use crate::version::{runs_flip, NEWEST};
 
-/// The word at a line and pixel; 19 where there is no such line or pixel.
+/// The word at a line and pixel by the newest rules.
 pub fn level(profile: &Profile, line: u64, pixel: u64) -> Result<u16, Refusal> {
+    level_by(NEWEST, profile, line, pixel)
+}
+
+/// The word at a line and pixel by a rule version; 19 where there is no such
+/// line or pixel.
+pub fn level_by(version: u16, profile: &Profile, line: u64, pixel: u64) -> Result<u16, Refusal> {
     check(profile)?;
     demand(place_exists(profile, (line, pixel)), NO_SUCH_PLACE, 0)?;
-    Ok(Line::new(profile, line).word(pixel))
+    Ok(Line::new(version, profile, line).word(pixel))
 }
 
 /// "Pixels run line by line; a field pixel, counted from 0, can be asked for
@@ -28,6 +35,7 @@ pub fn locate(profile: &Profile, n: u64) -> Result<(u64, u64), Refusal> {
 
 /// One line of an accepted profile's field, with what its words depend on.
 pub struct Line<'a> {
+    version: u16,
     profile: &'a Profile,
     line: u64,
     length: u64,
@@ -42,13 +50,14 @@ pub struct Line<'a> {
 }
 
 impl<'a> Line<'a> {
-    pub fn new(profile: &'a Profile, line: u64) -> Line<'a> {
+    pub fn new(version: u16, profile: &'a Profile, line: u64) -> Line<'a> {
         let number = region_of_line(profile, line);
         let region = &profile.field.regions[number];
         let sequence = profile.sequence_of(number);
         // "gates and the second pattern act on both"
         let on_gate_line = gate_lines(profile).any(|gate_line| line == gate_line);
         Line {
+            version,
             profile,
             line,
             length: line_length(profile, line),
@@ -116,19 +125,48 @@ impl<'a> Line<'a> {
         }
     }
 
-    /// "Before start the level is the start level. While t < r × length, the
-    /// level is the start level flipped once for each used toggle at or below t
-    /// mod length: each repetition starts afresh. After that it is the start
-    /// level."
+    /// "Before start the level is the start level", in every rule version.
     fn v_repeated(&self, from: u64) -> u16 {
-        let pattern = &self.pattern;
         let start = self.sequence.start as u64;
+        if from < start {
+            self.pattern.levels
+        } else if runs_flip(self.version) {
+            self.v_flipping(from - start)
+        } else {
+            self.v_afresh(from - start)
+        }
+    }
+
+    /// The first rules: "While t < r × length, the level is the start level
+    /// flipped once for each used toggle at or below t mod length: each
+    /// repetition starts afresh. After that it is the start level."
+    fn v_afresh(&self, t: u64) -> u16 {
+        let pattern = &self.pattern;
         let r = repetitions(self.sequence, self.line);
-        if from < start || from - start >= r * pattern.length {
+        if t >= r * pattern.length {
             return pattern.levels;
         }
-        let in_repetition = (from - start) % pattern.length;
+        let in_repetition = t % pattern.length;
         flipped(pattern, Use::BelowLength, |toggle| toggle <= in_repetition)
+    }
+
+    /// From version 2: "A new repetition takes over the level the last one ended
+    /// with, and after the last run the level stays. Only the start of a line
+    /// (plain) or of the region (sweep) sets the start level again." Every
+    /// repetition that has ended flipped an output by all its used toggles.
+    fn v_flipping(&self, t: u64) -> u16 {
+        let length = self.pattern.length;
+        let r = repetitions(self.sequence, self.line);
+        let running = t < r * length;
+        let ended = if running { t / length } else { r };
+        let mut levels = self.pattern.levels;
+        for (output, toggles) in self.pattern.toggles.iter().enumerate() {
+            let used = toggles.iter().filter(|toggle| is_used(**toggle, length, Use::BelowLength));
+            let reached = used.clone().filter(|toggle| running && **toggle <= t % length);
+            let flips = ended * used.count() as u64 + reached.count() as u64;
+            levels ^= ((flips % 2) as u16) << output;
+        }
+        levels
     }
 
     /// "Multiplier: t likewise; one flip for each used toggle with toggle ×

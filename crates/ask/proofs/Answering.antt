@@ -9,6 +9,7 @@ use lib.ListN.{length, take, drop, length-append}
 use lib.Seq.{take-at, length-take-le}
 use borrow.Author.Tests.{eq-eqb, ne-eqb, le-leb, lt-leb, not-true, not-false}
 use Rattle.profile.specs.Values.{accepts}
+use Rattle.profile.specs.Versions.{newestRules}
 use Rattle.profile.specs.Script.{readScript}
 use Rattle.profile.specs.Writing.{longestScript, writeScript, writeVerdict, writeAnswer, writeLeaves}
 use Rattle.profile.specs.declared.Profile.{Profile}
@@ -93,8 +94,8 @@ module _ (a : Located) where
   locate-place h = rw (eq-eqb (a .verdict .number) 0 h)
 
 -- what was written into room for the longest script
-module _ (p : Profile) (room : List ℕ) (r : Written) (e : r ≡ writeAnswer p (length room)) (z : longestScript ≡ length room) where
-  told : r .verdict ≡ writeVerdict p longestScript
+module _ (p : Profile) (room : List ℕ) (r : Written) (e : r ≡ writeAnswer newestRules p (length room)) (z : longestScript ≡ length room) where
+  told : r .verdict ≡ writeVerdict newestRules p longestScript
   unfolding writeAnswer
   told = ap (λ (w : Written). w .verdict) e ∙ rw (← z)
 
@@ -103,7 +104,7 @@ module _ (p : Profile) (room : List ℕ) (r : Written) (e : r ≡ writeAnswer p 
   write-refused h = rw (← told, ne-eqb (r .verdict .number) 0 h)
 
   module _ (h : r .verdict .number ≡ 0) where
-    accepting : accepts (writeVerdict p longestScript) ≡ true
+    accepting : accepts (writeVerdict newestRules p longestScript) ≡ true
     accepting = rw (← told) (eq-eqb (r .verdict .number) 0 h)
 
     write-length : r .length ≡ length (writeScript p)
@@ -113,7 +114,7 @@ module _ (p : Profile) (room : List ℕ) (r : Written) (e : r ≡ writeAnswer p 
     pub write-inside : r .length ≤ longestScript
     write-inside = omega (arith, write-length, script-high p)
 
-    pub write-taken : (room′ : List ℕ) → room′ ≡ writeLeaves p room → take (r .length) room′ ≡ writeText p
+    pub write-taken : (room′ : List ℕ) → room′ ≡ writeLeaves newestRules p room → take (r .length) room′ ≡ writeText p
     unfolding writeText writeLeaves
     write-taken room′ g =
         rw (g, write-length, ← z, accepting) (take-at (writeScript p) (drop (length (writeScript p)) room) (length (writeScript p)) refl)
@@ -123,7 +124,7 @@ module _ (p : Profile) (room : List ℕ) (r : Written) (e : r ≡ writeAnswer p 
     write-short = rw accepting (script-high p)
 
 -- of a script
-module _ (text : Profile → List ℕ) (s : List ℕ) (a : ReadAnswer) (e : a ≡ readScript s) where
+module _ (text : Profile → List ℕ) (s : List ℕ) (a : ReadAnswer) (e : a ≡ readScript newestRules s) where
   pub of-refused : (a .verdict .number ≡ 0 → ⊥) → refusedLine (a .verdict) ≡ ofProfile text s
   unfolding ofProfile
   of-refused h = rw (← e, ne-eqb (a .verdict .number) 0 h)

@@ -10,6 +10,7 @@ use lib.ListN.{length, take, length-drop}
 use lib.Seq.{take-all, take-take, length-take-le}
 use borrow.Author.Tests.{le-leb, lt-leb, leb-true, leb-false, eq-eqb}
 use Rattle.profile.specs.Values.{accepted, refused}
+use Rattle.profile.specs.Versions.{newestRules}
 use Rattle.profile.specs.Rules.{checkProfile}
 use Rattle.profile.specs.Script.{mostBytes, readScript}
 use Rattle.profile.specs.Records.{unread}
@@ -41,7 +42,7 @@ use Rattle.ask.proofs.Answering.{asked-none, asked-answer}
 -- ---- scripts that are too long are answered alike
 
 module _ (s : List ℕ) (h : mostBytes < length s) where
-  too-long : readScript s ≡ unread (refused 1 0)
+  too-long : readScript newestRules s ≡ unread (refused 1 0)
   unfolding readScript
   too-long = rw (lt-leb (length s) mostBytes h)
 
@@ -63,8 +64,8 @@ module _ (line s t : List ℕ) (h : mostBytes < length s) (g : mostBytes < lengt
       rw (
         same (λ p. acceptedLine),
         same writeText,
-        same (λ p. levelText (levelAnswer p (valueOf (firstOf line)) (valueOf (secondOf line)))),
-        same (λ p. locateText (locateAnswer p (valueOf (numbersOf line)))),
+        same (λ p. levelText (levelAnswer newestRules p (valueOf (firstOf line)) (valueOf (secondOf line)))),
+        same (λ p. locateText (locateAnswer newestRules p (valueOf (numbersOf line)))),
         figures-long s h ∙ sym (figures-long t g),
       )
 
@@ -124,19 +125,19 @@ asked-enough input =
 
 -- ---- WHAT IS WRITTEN READS BACK: the script that is printed for an accepted one gives the same profile, and is accepted
 
-module _ (s : List ℕ) (h : readScript s .verdict .number ≡ 0) where
+module _ (s : List ℕ) (h : readScript newestRules s .verdict .number ≡ 0) where
   abbrev profile : Profile
-  profile = readScript s .profile
+  profile = readScript newestRules s .profile
 
-  checked : checkProfile profile ≡ accepted
-  checked = read-accepted s h
+  checked : checkProfile newestRules profile ≡ accepted
+  checked = read-accepted newestRules s h
 
   pub written-script : writeAsked s ≡ writeScript profile
   unfolding ofProfile writeText
   written-script =
-      rw (eq-eqb (readScript s .verdict .number) 0 h, checked, le-leb (length (writeScript profile)) longestScript (script-high profile))
+      rw (eq-eqb (readScript newestRules s .verdict .number) 0 h, checked, le-leb (length (writeScript profile)) longestScript (script-high profile))
 
-  pub written-back : readScript (writeAsked s) ≡ readScript s
+  pub written-back : readScript newestRules (writeAsked s) ≡ readScript newestRules s
   written-back =
-      ap readScript written-script ∙ round-trip profile (read-sized s) checked
-      ∙ ap (λ (v : Verdict). record { verdict = v; profile = profile }) (sym (read-verdict s h))
+      ap (readScript newestRules) written-script ∙ round-trip newestRules profile (read-sized newestRules s) checked
+      ∙ ap (λ (v : Verdict). record { verdict = v; profile = profile }) (sym (read-verdict newestRules s h))

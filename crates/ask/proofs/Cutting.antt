@@ -8,6 +8,7 @@ use mathlib.Core.List.{List}
 use lib.Dec.{ltb}
 use borrow.Author.Tests.{le-ltb, ltb-true, ltb-false, eqb-true}
 use Rattle.profile.specs.Values.{accepted, accepts}
+use Rattle.profile.specs.Versions.{newestRules}
 use Rattle.profile.specs.Geometry.{lineLength, pixelCount, hasPixel}
 use Rattle.profile.specs.Rules.{checkProfile}
 use Rattle.profile.specs.Script.{readScript}
@@ -33,15 +34,15 @@ cut-test n m h =
 
 -- ---- an accepted profile
 
-module _ (p : Profile) (e : checkProfile p ≡ accepted) where
+module _ (p : Profile) (e : checkProfile newestRules p ≡ accepted) where
   lines-few : p .field .lines ≤ cap
-  lines-few = omega (arith, ranged p (check-range p e) (accepted-field p e) .most-lines)
+  lines-few = omega (arith, ranged p (check-range newestRules p e) (accepted-field newestRules p e) .most-lines)
 
   length-few : (line : ℕ) → lineLength (p .tables) (p .field) line ≤ cap
-  length-few line = omega (arith, line-length-most p (check-range p e) (accepted-field p e) line)
+  length-few line = omega (arith, line-length-most p (check-range newestRules p e) (accepted-field newestRules p e) line)
 
   pixels-few : pixelCount (p .tables) (p .field) ≤ cap
-  pixels-few = omega (arith, pixels-most p (check-range p e) (accepted-field p e))
+  pixels-few = omega (arith, pixels-most p (check-range newestRules p e) (accepted-field newestRules p e))
 
   -- a line and a pixel that are asked for
   module _ (l x : ℕ) where
@@ -64,7 +65,7 @@ module _ (p : Profile) (e : checkProfile p ≡ accepted) where
       cut-small x (lineLength (p .tables) (p .field) l) (length-few l) (and-right (ltb l (p .field .lines)) _ t),
     )
 
-    pub level-cut : levelAnswer p (min l cap) (min x cap) ≡ levelAnswer p l x
+    pub level-cut : levelAnswer newestRules p (min l cap) (min x cap) ≡ levelAnswer newestRules p l x
     unfolding levelAnswer
     level-cut =
         rw (e, cut-inside)
@@ -72,7 +73,7 @@ module _ (p : Profile) (e : checkProfile p ≡ accepted) where
         (λ t. let s = cut-same t in rw (t, s .0, s .1))
         (λ t. rw t))
 
-  pub locate-cut : (n : ℕ) → locateAnswer p (min n cap) ≡ locateAnswer p n
+  pub locate-cut : (n : ℕ) → locateAnswer newestRules p (min n cap) ≡ locateAnswer newestRules p n
   unfolding locateAnswer
   locate-cut n =
       rw (e, cut-test n (pixelCount (p .tables) (p .field)) pixels-few)
@@ -85,19 +86,19 @@ module _ (p : Profile) (e : checkProfile p ≡ accepted) where
 module _ (s : List ℕ) where
   -- texts that are the same for every accepted profile
   of-same :
-      (f g : Profile → List ℕ) → ((p : Profile) → checkProfile p ≡ accepted → f p ≡ g p) → ofProfile f s ≡ ofProfile g s
+      (f g : Profile → List ℕ) → ((p : Profile) → checkProfile newestRules p ≡ accepted → f p ≡ g p) → ofProfile f s ≡ ofProfile g s
   unfolding ofProfile
   of-same f g h =
-      by-cases (accepts (readScript s .verdict))
-      (λ t. rw t (h (readScript s .profile) (read-accepted s (eqb-true (readScript s .verdict .number) 0 t))))
+      by-cases (accepts (readScript newestRules s .verdict))
+      (λ t. rw t (h (readScript newestRules s .profile) (read-accepted newestRules s (eqb-true (readScript newestRules s .verdict .number) 0 t))))
       (λ t. rw t)
 
   pub level-asked : (l x : ℕ) → levelAsked (min l cap) (min x cap) s ≡ levelAsked l x s
   level-asked l x =
-      of-same (λ p. levelText (levelAnswer p (min l cap) (min x cap))) (λ p. levelText (levelAnswer p l x))
+      of-same (λ p. levelText (levelAnswer newestRules p (min l cap) (min x cap))) (λ p. levelText (levelAnswer newestRules p l x))
       (λ p e. ap levelText (level-cut p e l x))
 
   pub locate-asked : (n : ℕ) → locateAsked (min n cap) s ≡ locateAsked n s
   locate-asked n =
-      of-same (λ p. locateText (locateAnswer p (min n cap))) (λ p. locateText (locateAnswer p n))
+      of-same (λ p. locateText (locateAnswer newestRules p (min n cap))) (λ p. locateText (locateAnswer newestRules p n))
       (λ p e. ap locateText (locate-cut p e n))

@@ -6,6 +6,7 @@ use mathlib.Core.Bool.{cond, _&&_}
 use lib.ListN.{length}
 use lib.Dec.{leb, eqb}
 use Rattle.profile.specs.Values.{accepts}
+use Rattle.profile.specs.Versions.{newestRules}
 use Rattle.profile.specs.Script.{readScript}
 use Rattle.profile.specs.Writing.{longestScript, writeScript, writeVerdict}
 use Rattle.profile.specs.declared.Profile.{Profile}
@@ -54,11 +55,11 @@ locateText a = cond (accepts (a .verdict)) (placeLine (a .line) (a .pixel)) (ref
 
 -- the script as the writer writes it, into room for the longest
 unfoldable pub writeText : Profile → List ℕ
-writeText p = cond (accepts (writeVerdict p longestScript)) (writeScript p) (refusedLine (writeVerdict p longestScript))
+writeText p = cond (accepts (writeVerdict newestRules p longestScript)) (writeScript p) (refusedLine (writeVerdict newestRules p longestScript))
 
 -- of a script: its refusal, or what its profile gives
 unfoldable pub ofProfile : (Profile → List ℕ) → List ℕ → List ℕ
-ofProfile text s = cond (accepts (readScript s .verdict)) (text (readScript s .profile)) (refusedLine (readScript s .verdict))
+ofProfile text s = cond (accepts (readScript newestRules s .verdict)) (text (readScript newestRules s .profile)) (refusedLine (readScript newestRules s .verdict))
 
 abbrev pub checkAsked : List ℕ → List ℕ
 checkAsked s = ofProfile (λ p. acceptedLine) s
@@ -67,10 +68,10 @@ abbrev pub writeAsked : List ℕ → List ℕ
 writeAsked s = ofProfile writeText s
 
 abbrev pub levelAsked : ℕ → ℕ → List ℕ → List ℕ
-levelAsked line pixel s = ofProfile (λ p. levelText (levelAnswer p line pixel)) s
+levelAsked line pixel s = ofProfile (λ p. levelText (levelAnswer newestRules p line pixel)) s
 
 abbrev pub locateAsked : ℕ → List ℕ → List ℕ
-locateAsked n s = ofProfile (λ p. locateText (locateAnswer p n)) s
+locateAsked n s = ofProfile (λ p. locateText (locateAnswer newestRules p n)) s
 
 abbrev pub figuresAsked : List ℕ → List ℕ
 figuresAsked s = figuresLine (figuresOf s)

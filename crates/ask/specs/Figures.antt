@@ -8,6 +8,7 @@ use lib.ListN.{length, getD, drop}
 use lib.Dec.{ltb, leb, eqb}
 use Rattle.profile.specs.Bytes.{numberAt}
 use Rattle.profile.specs.Values.{emptyProfile}
+use Rattle.profile.specs.Versions.{newestRules}
 use Rattle.profile.specs.Script.{records, readScript}
 use Rattle.profile.specs.Patterns.{rowOf}
 use Rattle.profile.specs.Geometry.{regionAt, firstLine, gateOf, shutterOf, sequenceAt, patternAt, gateLength, regionSize}
@@ -79,4 +80,4 @@ figuresBy s v =
     (cond (leb (v .number) 6) noFigures (profileFigures (records 0 0 s emptyProfile .profile) v)))
 
 unfoldable pub figuresOf : List ℕ → Figures
-figuresOf s = figuresBy s (readScript s .verdict)
+figuresOf s = figuresBy s (readScript newestRules s .verdict)

@@ -8,8 +8,8 @@ mod places;
 use level::Line;
 use level::Mask;
 use level::Pulse;
+use level::Run;
 use level::Span;
-use profile::mode_of;
 use profile::pattern_of;
 ghost use Prim.Native.Nat.{_+_, _≤_, _<_};
 
@@ -80,6 +80,19 @@ fn mask_of(on: bool, freeze: u16, resume: u16) -> Mask {
     }
 }
 
+// How V1 to V6 run in a mode by the newest rules, and the pixels of the region before a line that count.
+fn run_of(mode: u16) -> Run {
+    if mode == 2 {
+        Run::Multiplied
+    } else {
+        Run::Carried
+    }
+}
+
+fn origin_of(mode: u16, before: u32) -> u32 {
+    if mode == 0 { 0 } else { before }
+}
+
 // Line i: its start levels and its place in the region differ from line to line.
 fn line_from(n: [u16; 240], i: u64) -> Line
     requires { ⌜ i < 4095 ⌝ }
@@ -88,10 +101,10 @@ fn line_from(n: [u16; 240], i: u64) -> Line
     pattern.levels = (pattern.levels % 64 + ((i % 64) as u16)) % 64;
     Line {
         length: n[48],
-        mode: mode_of(n[49]),
+        run: run_of(n[49]),
         pattern: pattern,
         start: n[50],
-        origin: (i * 4095) as u32,
+        origin: origin_of(n[49], (i * 4095) as u32),
         repetitions: n[51],
         mask1: mask_of(n[52] % 2 == 1, pattern.freeze1, pattern.resume1),
         mask2: mask_of(n[52] / 2 % 2 == 1, pattern.freeze2, pattern.resume2),

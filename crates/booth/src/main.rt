@@ -2,6 +2,7 @@
 ghost use mathlib.Core.Path.{_≡_};
 ghost use Prim.Native.Nat.{_≤_};
 ghost use lib.ListN.{length, take};
+ghost use Rattle.profile.specs.Versions.{newestRules};
 ghost use Rattle.holdlist.specs.Prints.{Prints};
 ghost use Rattle.holdlist.specs.Text.{printed};
 use libc::STDERR_FILENO;
@@ -15,19 +16,6 @@ fn script_room() -> [u8; 16385]
     [0; 16385]
 }
 
-// Room for 4,096 steps.
-fn count_room() -> [u32; 4096]
-    ensures { λ r. ⌜ 4096 ≡ length r ⌝ }
-{
-    [0; 4096]
-}
-
-fn word_room() -> [u16; 4096]
-    ensures { λ r. ⌜ 4096 ≡ length r ⌝ }
-{
-    [0; 4096]
-}
-
 // Room for 4,096 lines of at most 16 bytes, and a head line of at most 55.
 fn text_room() -> [u8; 65600]
     ensures { λ r. ⌜ 65600 ≡ length r ⌝ }
@@ -35,23 +23,14 @@ fn text_room() -> [u8; 65600]
     [0; 65600]
 }
 
-// Puts what is printed for a script, and gives its length.
+// Puts what is printed for a script by the newest rules, and gives its length.
 fn put_answer(script: &[u8], out: &mut [u8]) -> usize
     requires { ⌜ length (now out) ≡ 65600 ⌝ }
     ensures { λ r. ⌜ r ≤ 65600 ⌝ }
-    ensures { λ r. ⌜ take r (now (out .exit)) ≡ printed (now (script .entry)) ⌝ }
-    ensures { λ r. ⌜ Prints (now (script .entry)) (take r (now (out .exit))) ⌝ }
+    ensures { λ r. ⌜ take r (now (out .exit)) ≡ printed newestRules (now (script .entry)) ⌝ }
+    ensures { λ r. ⌜ Prints newestRules (now (script .entry)) (take r (now (out .exit))) ⌝ }
 {
-    let answer = profile::read(script);
-    let verdict = answer.verdict;
-    if verdict.number != 0 {
-        return holdlist::put_refused_line(out, 0, verdict);
-    }
-    let profile = answer.profile;
-    let mut counts = count_room();
-    let mut words = word_room();
-    let compiled = holdlist::compile(profile, &mut counts, &mut words);
-    holdlist::put_printed(out, 0, compiled, &counts, &words)
+    holdlist::put_text_in(out, 0, profile::newest_rules(), script)
 }
 
 // Prints the answer to a script. A write that fails is said on standard error.

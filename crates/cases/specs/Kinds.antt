@@ -5,6 +5,7 @@ use mathlib.Core.List.{List, [], _∷_, _++_}
 use mathlib.Core.Bool.{cond}
 use lib.Dec.{eqb}
 use lib.ListN.{length, drop}
+use Rattle.profile.specs.Versions.{newestRules}
 use Rattle.profile.specs.Rules.{checkProfile}
 use Rattle.profile.specs.Script.{readScript}
 use Rattle.profile.specs.Writing.{writeAnswer, writeLeaves}
@@ -12,14 +13,16 @@ use Rattle.profile.specs.declared.ReadAnswer.{ReadAnswer}
 use Rattle.profile.specs.declared.Verdict.{Verdict}
 use Rattle.profile.specs.declared.Written.{Written}
 use Rattle.profile.specs.declared.Profile.{Profile}
+use Rattle.profile.specs.declared.Ruleset.{Ruleset}
 use Rattle.level.specs.Place.{levelAnswer, locateAnswer}
 use Rattle.level.specs.declared.LevelAnswer.{LevelAnswer}
 use Rattle.level.specs.declared.Located.{Located}
 use Rattle.holdlist.specs.Compile.{roomOf, compileAnswer, compileCounts, compileWords}
 use Rattle.holdlist.specs.Play.{playAnswer}
+use Rattle.holdlist.specs.Text.{printed}
 use Rattle.holdlist.specs.declared.Compiled.{Compiled}
 use Rattle.holdlist.specs.declared.Played.{Played}
-use Rattle.cases.specs.Raw.{fourAt, eightAt, numbersFrom, foursFrom, rawLength, rawProfile}
+use Rattle.cases.specs.Raw.{fourAt, eightAt, numbersFrom, foursFrom, rawLength, versionLength, versionedLength, rulesAt, rawProfile}
 use Rattle.cases.specs.Answer.{after, headText, hexLine, joinedLine, profileLine}
 
 -- ---- lines of an answer
@@ -59,12 +62,12 @@ playText a = verdictWith (a .verdict) (a .word)
 
 -- of a profile and the slice that is lent
 unfoldable pub writeOf : Profile → List ℕ → List ℕ
-writeOf p s = writeText (writeAnswer p (length s)) (writeLeaves p s)
+writeOf p s = writeText (writeAnswer newestRules p (length s)) (writeLeaves newestRules p s)
 
--- of a profile and the two lists that are lent
-unfoldable pub compileOf : Profile → List ℕ → List ℕ → List ℕ
-compileOf p cs ws =
-    compileText (compileAnswer p (roomOf cs ws)) (compileCounts p (roomOf cs ws) cs) (compileWords p (roomOf cs ws) ws)
+-- of a profile and the two lists that are lent, by the rules
+unfoldable pub compileOf : Ruleset → Profile → List ℕ → List ℕ → List ℕ
+compileOf rules p cs ws =
+    compileText (compileAnswer rules p (roomOf cs ws)) (compileCounts rules p (roomOf cs ws) cs) (compileWords rules p (roomOf cs ws) ws)
 
 -- "A list has at most 4,096 entries"
 abbrev pub lengthAt : List ℕ → ℕ → ℕ
@@ -72,17 +75,19 @@ lengthAt b at = min 4096 (fourAt b at)
 
 -- c counts from a place on, and w words behind them
 unfoldable pub compileLines : ℕ → ℕ → List ℕ → List ℕ
-compileLines c w b = compileOf (rawProfile b) (foursFrom b (rawLength + 8) c) (numbersFrom b (rawLength + 8 + 4 * c) w)
+compileLines c w b =
+    compileOf (rulesAt b rawLength) (rawProfile b) (foursFrom b (versionedLength + 8) c) (numbersFrom b (versionedLength + 8 + 4 * c) w)
 
 unfoldable pub playLines : ℕ → ℕ → List ℕ → List ℕ
 playLines c w b = playText (playAnswer (foursFrom b 24 c) (numbersFrom b (24 + 4 * c) w) (eightAt b 8) (eightAt b 16))
 
--- R, C, W, L, N, K, P
+-- R, C, W, L, N, K, T, P
 unfoldable pub linesOf : ℕ → List ℕ → List ℕ
 linesOf kind b =
-    cond (eqb kind 82) (readText (readScript b))
-    (cond (eqb kind 67) (verdictText (checkProfile (rawProfile b)))
+    cond (eqb kind 82) (readText (readScript newestRules b))
+    (cond (eqb kind 67) (verdictText (checkProfile newestRules (rawProfile b)))
     (cond (eqb kind 87) (writeOf (rawProfile b) (drop rawLength b))
-    (cond (eqb kind 76) (levelText (levelAnswer (rawProfile b) (eightAt b rawLength) (eightAt b (rawLength + 8))))
-    (cond (eqb kind 78) (locateText (locateAnswer (rawProfile b) (eightAt b rawLength)))
-    (cond (eqb kind 75) (compileLines (lengthAt b rawLength) (lengthAt b (rawLength + 4)) b) (playLines (lengthAt b 0) (lengthAt b 4) b))))))
+    (cond (eqb kind 76) (levelText (levelAnswer (rulesAt b rawLength) (rawProfile b) (eightAt b versionedLength) (eightAt b (versionedLength + 8))))
+    (cond (eqb kind 78) (locateText (locateAnswer newestRules (rawProfile b) (eightAt b rawLength)))
+    (cond (eqb kind 75) (compileLines (lengthAt b versionedLength) (lengthAt b (versionedLength + 4)) b)
+    (cond (eqb kind 84) (printed (rulesAt b 0) (drop versionLength b)) (playLines (lengthAt b 0) (lengthAt b 4) b)))))))

@@ -7,6 +7,7 @@ use lib.ListN.{getD}
 use Rattle.profile.specs.Lists.{chunks}
 use Rattle.profile.specs.Bytes.{numberAt}
 use Rattle.profile.specs.Values.{modeOf}
+use Rattle.profile.specs.Versions.{rulesetOf}
 use Rattle.profile.specs.declared.Region.{Region}
 use Rattle.profile.specs.declared.Sequence.{Sequence}
 use Rattle.profile.specs.declared.Field.{Field}
@@ -15,6 +16,7 @@ use Rattle.profile.specs.declared.Subck.{Subck}
 use Rattle.profile.specs.declared.Shutter.{Shutter}
 use Rattle.profile.specs.declared.Tables.{Tables}
 use Rattle.profile.specs.declared.Profile.{Profile}
+use Rattle.profile.specs.declared.Ruleset.{Ruleset}
 
 -- ---- numbers
 
@@ -89,6 +91,17 @@ rawCount = 381
 
 abbrev pub rawLength : ℕ
 rawLength = 762
+
+-- a version's two bytes, and the raw profile with them behind it
+abbrev pub versionLength : ℕ
+versionLength = 2
+
+abbrev pub versionedLength : ℕ
+versionedLength = rawLength + versionLength
+
+-- the rules of the version at a place
+abbrev pub rulesAt : List ℕ → ℕ → Ruleset
+rulesAt b at = rulesetOf (numberAt b at)
 
 abbrev pub rawNumbers : List ℕ → List ℕ
 rawNumbers b = numbersFrom b 0 rawCount

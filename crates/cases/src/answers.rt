@@ -1,7 +1,10 @@
 // The answer to one case: what an entry point gives for a payload, as text.
 use crate::raw::RAW;
 use crate::raw::RAW_AND_ONE;
-use crate::raw::RAW_AND_TWO;
+use crate::raw::VERSION;
+use crate::raw::VERSIONED;
+use crate::raw::VERSIONED_AND_ONE;
+use crate::raw::VERSIONED_AND_TWO;
 use crate::raw::eight_at;
 use crate::raw::fill_fours;
 use crate::raw::fill_numbers;
@@ -9,6 +12,7 @@ use crate::raw::has_lists;
 use crate::raw::is_raw;
 use crate::raw::length_at;
 use crate::raw::raw_profile;
+use crate::raw::rules_at;
 use crate::text::put_after;
 use crate::text::put_case_line;
 use crate::text::put_counts;
@@ -18,17 +22,19 @@ use crate::text::put_verdict;
 use crate::text::put_words;
 use holdlist::put_byte;
 use profile::Profile;
+use profile::Ruleset;
 use profile::Verdict;
 ghost use mathlib.Core.Path.{_≡_};
 ghost use mathlib.Core.List.{_++_};
 ghost use Prim.Native.Nat.{_+_, _≤_, min};
 ghost use lib.ListN.{length, drop};
+ghost use Rattle.profile.specs.Versions.{newestRules};
 ghost use Rattle.profile.specs.Rules.{checkProfile};
 ghost use Rattle.profile.specs.Script.{readScript};
 ghost use Rattle.level.specs.Place.{levelAnswer, locateAnswer};
 ghost use Rattle.holdlist.specs.Play.{playAnswer};
-ghost use Rattle.holdlist.specs.Text.{Puts};
-ghost use Rattle.cases.specs.Raw.{eightAt, rawLength, rawProfile};
+ghost use Rattle.holdlist.specs.Text.{printed, Puts};
+ghost use Rattle.cases.specs.Raw.{eightAt, rawLength, versionLength, versionedLength, rulesAt, rawProfile};
 ghost use Rattle.cases.specs.Answer.{caseLine};
 ghost use Rattle.cases.specs.Kinds.{verdictText, verdictWith, verdictWithTwo, readText, levelText, locateText, writeOf, lengthAt, compileOf, compileLines, playText, playLines, linesOf};
 ghost use Rattle.cases.specs.Faults.{isRight, answerText};
@@ -72,7 +78,7 @@ fn put_verdict_with_two(out: &mut [u8], at: usize, verdict: Verdict, m: u64, n: 
 }
 
 fn put_read(out: &mut [u8], at: usize, payload: &[u8]) -> usize
-    ensures { λ r. ⌜ Puts (readText (readScript (now (payload .entry)))) (now (out .entry)) at r (now (out .exit)) ⌝ }
+    ensures { λ r. ⌜ Puts (readText (readScript newestRules (now (payload .entry)))) (now (out .entry)) at r (now (out .exit)) ⌝ }
 {
     let answer = profile::read(payload);
     let verdict = answer.verdict;
@@ -82,7 +88,7 @@ fn put_read(out: &mut [u8], at: usize, payload: &[u8]) -> usize
 }
 
 fn put_check(out: &mut [u8], at: usize, payload: &[u8]) -> usize
-    ensures { λ r. ⌜ Puts (verdictText (checkProfile (rawProfile (now (payload .entry))))) (now (out .entry)) at r (now (out .exit)) ⌝ }
+    ensures { λ r. ⌜ Puts (verdictText (checkProfile newestRules (rawProfile (now (payload .entry))))) (now (out .entry)) at r (now (out .exit)) ⌝ }
 {
     let profile = raw_profile(payload);
     let verdict = profile::check(profile);
@@ -119,18 +125,18 @@ fn put_write(out: &mut [u8], at: usize, payload: &mut [u8]) -> usize
 }
 
 fn put_level(out: &mut [u8], at: usize, payload: &[u8]) -> usize
-    ensures { λ r. ⌜ Puts (levelText (levelAnswer (rawProfile (now (payload .entry))) (eightAt (now (payload .entry)) rawLength) (eightAt (now (payload .entry)) (rawLength + 8)))) (now (out .entry)) at r (now (out .exit)) ⌝ }
+    ensures { λ r. ⌜ Puts (levelText (levelAnswer (rulesAt (now (payload .entry)) rawLength) (rawProfile (now (payload .entry))) (eightAt (now (payload .entry)) versionedLength) (eightAt (now (payload .entry)) (versionedLength + 8)))) (now (out .entry)) at r (now (out .exit)) ⌝ }
 {
-    let line = eight_at(payload, RAW);
-    let pixel = eight_at(payload, RAW_AND_ONE);
+    let line = eight_at(payload, VERSIONED);
+    let pixel = eight_at(payload, VERSIONED_AND_ONE);
     let profile = raw_profile(payload);
-    let answer = level::level(profile, line, pixel);
+    let answer = level::level_in(rules_at(payload, RAW), profile, line, pixel);
     let verdict = answer.verdict;
     put_verdict_with(out, at, verdict, answer.word as u64)
 }
 
 fn put_locate(out: &mut [u8], at: usize, payload: &[u8]) -> usize
-    ensures { λ r. ⌜ Puts (locateText (locateAnswer (rawProfile (now (payload .entry))) (eightAt (now (payload .entry)) rawLength))) (now (out .entry)) at r (now (out .exit)) ⌝ }
+    ensures { λ r. ⌜ Puts (locateText (locateAnswer newestRules (rawProfile (now (payload .entry))) (eightAt (now (payload .entry)) rawLength))) (now (out .entry)) at r (now (out .exit)) ⌝ }
 {
     let n = eight_at(payload, RAW);
     let profile = raw_profile(payload);
@@ -142,13 +148,14 @@ fn put_locate(out: &mut [u8], at: usize, payload: &[u8]) -> usize
 fn put_compiled(
     out: &mut [u8],
     at: usize,
+    rules: Ruleset,
     profile: Profile,
     counts: &mut [u32],
     words: &mut [u16],
 ) -> usize
-    ensures { λ r. ⌜ Puts (compileOf profile (now (counts .entry)) (now (words .entry))) (now (out .entry)) at r (now (out .exit)) ⌝ }
+    ensures { λ r. ⌜ Puts (compileOf rules profile (now (counts .entry)) (now (words .entry))) (now (out .entry)) at r (now (out .exit)) ⌝ }
 {
-    let compiled = holdlist::compile(profile, counts, words);
+    let compiled = holdlist::compile_in(rules, profile, counts, words);
     let verdict = compiled.verdict;
     let a = put_verdict(out, at, verdict);
     let b = put_after(out, a, compiled.steps as u64);
@@ -170,19 +177,40 @@ fn compile_into(
     ensures { λ r. ⌜ Puts (compileLines (length (now (counts .entry))) (length (now (words .entry))) (now (payload .entry))) (now (out .entry)) at r (now (out .exit)) ⌝ }
 {
     let profile = raw_profile(payload);
-    fill_fours(counts, payload, RAW_AND_ONE);
-    fill_numbers(words, payload, RAW_AND_ONE + 4 * counts.len());
-    put_compiled(out, at, profile, counts, words)
+    let rules = rules_at(payload, RAW);
+    fill_fours(counts, payload, VERSIONED_AND_ONE);
+    fill_numbers(words, payload, VERSIONED_AND_ONE + 4 * counts.len());
+    put_compiled(out, at, rules, profile, counts, words)
 }
 
 fn put_compile(out: &mut [u8], at: usize, payload: &[u8]) -> usize
-    ensures { λ r. ⌜ Puts (compileLines (lengthAt (now (payload .entry)) rawLength) (lengthAt (now (payload .entry)) (rawLength + 4)) (now (payload .entry))) (now (out .entry)) at r (now (out .exit)) ⌝ }
+    ensures { λ r. ⌜ Puts (compileLines (lengthAt (now (payload .entry)) versionedLength) (lengthAt (now (payload .entry)) (versionedLength + 4)) (now (payload .entry))) (now (out .entry)) at r (now (out .exit)) ⌝ }
 {
     let mut counts = count_room();
     let mut words = word_room();
-    let c = length_at(payload, RAW);
-    let w = length_at(payload, RAW + 4);
+    let c = length_at(payload, VERSIONED);
+    let w = length_at(payload, VERSIONED + 4);
     compile_into(out, at, payload, &mut counts[..c], &mut words[..w])
+}
+
+// Where the script of a text that is asked for begins, or the payload's end where it is shorter.
+fn script_start(payload: &[u8]) -> usize
+    ensures { λ r. ⌜ r ≡ min versionLength (length (now (payload .entry))) ⌝ }
+{
+    if payload.len() < VERSION {
+        payload.len()
+    } else {
+        VERSION
+    }
+}
+
+// What the program prints for a script, by a version.
+fn put_text(out: &mut [u8], at: usize, payload: &[u8]) -> usize
+    ensures { λ r. ⌜ Puts (printed (rulesAt (now (payload .entry)) 0) (drop versionLength (now (payload .entry)))) (now (out .entry)) at r (now (out .exit)) ⌝ }
+{
+    let rules = rules_at(payload, 0);
+    let from = script_start(payload);
+    holdlist::put_text_in(out, at, rules, &payload[from..])
 }
 
 fn put_played(
@@ -236,9 +264,10 @@ fn is_right(kind: u8, payload: &[u8]) -> bool
         b'R' => payload.len() <= 40000,
         b'C' => is_raw(payload) & (payload.len() == RAW),
         b'W' => is_raw(payload),
-        b'L' => is_raw(payload) & (payload.len() == RAW_AND_TWO),
+        b'L' => is_raw(payload) & (payload.len() == VERSIONED_AND_TWO),
         b'N' => is_raw(payload) & (payload.len() == RAW_AND_ONE),
-        b'K' => is_raw(payload) & has_lists(payload, RAW, RAW_AND_ONE),
+        b'K' => is_raw(payload) & has_lists(payload, VERSIONED, VERSIONED_AND_ONE),
+        b'T' => (VERSION <= payload.len()) & (payload.len() <= 40002),
         b'P' => has_lists(payload, 0, 24),
         _ => false,
     }
@@ -254,6 +283,7 @@ fn put_lines(out: &mut [u8], at: usize, kind: u8, payload: &mut [u8]) -> usize
         b'L' => put_level(out, at, payload),
         b'N' => put_locate(out, at, payload),
         b'K' => put_compile(out, at, payload),
+        b'T' => put_text(out, at, payload),
         _ => put_play(out, at, payload),
     }
 }

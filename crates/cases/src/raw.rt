@@ -3,16 +3,18 @@ use profile::Field;
 use profile::Gate;
 use profile::Profile;
 use profile::Region;
+use profile::Ruleset;
 use profile::Sequence;
 use profile::Shutter;
 use profile::Subck;
 use profile::Tables;
 use profile::mode_of;
+use profile::ruleset_of;
 ghost use mathlib.Core.Path.{_≡_};
 ghost use Prim.Native.Nat.{_+_, _*_, _<_, min};
 ghost use lib.ListN.{length, getD};
 ghost use Rattle.profile.specs.Bytes.{numberAt};
-ghost use Rattle.cases.specs.Raw.{fourAt, eightAt, rawSequence, rawGate, rawSubck, rawShutter, rawRegion, numbersFrom, foursFrom, rawCount, rawNumbers, rawSequences, rawGates, rawShutters, rawRegions, fieldWith, rawProfile};
+ghost use Rattle.cases.specs.Raw.{fourAt, eightAt, rulesAt, rawSequence, rawGate, rawSubck, rawShutter, rawRegion, numbersFrom, foursFrom, rawCount, rawNumbers, rawSequences, rawGates, rawShutters, rawRegions, fieldWith, rawProfile};
 ghost use Rattle.cases.specs.Faults.{below, isRaw, hasLists};
 
 // ---- numbers
@@ -41,6 +43,14 @@ pub(crate) fn number_at(body: &[u8], at: usize) -> u16
     ensures { λ r. ⌜ r ≡ numberAt (now (body .entry)) at ⌝ }
 {
     wide(byte_at(body, at)) + 256 * wide(byte_at(body, at + 1))
+}
+
+// The rules of the version at a place.
+pub(crate) fn rules_at(body: &[u8], at: usize) -> Ruleset
+    requires { ⌜ at < 65536 ⌝ }
+    ensures { λ r. ⌜ r ≡ rulesAt (now (body .entry)) at ⌝ }
+{
+    ruleset_of(number_at(body, at))
 }
 
 // The number of four bytes.
@@ -94,7 +104,14 @@ pub(crate) const RAW: usize = 762;
 
 pub(crate) const RAW_AND_ONE: usize = 770;
 
-pub(crate) const RAW_AND_TWO: usize = 778;
+// A version is two bytes, behind the raw profile or in front of a script.
+pub(crate) const VERSION: usize = 2;
+
+pub(crate) const VERSIONED: usize = 764;
+
+pub(crate) const VERSIONED_AND_ONE: usize = 772;
+
+pub(crate) const VERSIONED_AND_TWO: usize = 780;
 
 fn raw_sequence(n: [u16; RAW_COUNT], k: usize) -> Sequence
     requires { ⌜ k < 370 ⌝ }

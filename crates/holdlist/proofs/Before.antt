@@ -8,6 +8,7 @@ use mathlib.Core.List.{List}
 use Rattle.profile.specs.Values.{Sized, accepts}
 use Rattle.profile.specs.declared.Profile.{Profile}
 use Rattle.profile.specs.declared.Verdict.{Verdict}
+use Rattle.profile.specs.declared.Ruleset.{Ruleset}
 use Rattle.profile.proofs.Before.{checkBefore, check-before}
 use Rattle.level.proofs.Before.{wordsBefore, words-before}
 use Rattle.holdlist.specs.Compile.{holdAnswer, holdCounts, holdWords, compileAnswer, compileCounts, compileWords}
@@ -20,21 +21,21 @@ compileBy v words room = cond (accepts v) (holdAnswer words room) (record { verd
 abbrev pub leftBy : (List ℕ → ℕ → List ℕ → List ℕ) → Verdict → List ℕ → ℕ → List ℕ → List ℕ
 leftBy hold v words room list = cond (accepts v) (hold words room list) list
 
-pub compileBefore : Profile → ℕ → Compiled
-compileBefore p room = compileBy (checkBefore p) (wordsBefore (p .tables) (p .field)) room
+pub compileBefore : ℕ → Profile → ℕ → Compiled
+compileBefore version p room = compileBy (checkBefore p) (wordsBefore version (p .tables) (p .field)) room
 
-pub leftBefore : (List ℕ → ℕ → List ℕ → List ℕ) → Profile → ℕ → List ℕ → List ℕ
-leftBefore hold p room list = leftBy hold (checkBefore p) (wordsBefore (p .tables) (p .field)) room list
+pub leftBefore : ℕ → (List ℕ → ℕ → List ℕ → List ℕ) → Profile → ℕ → List ℕ → List ℕ
+leftBefore version hold p room list = leftBy hold (checkBefore p) (wordsBefore version (p .tables) (p .field)) room list
 
-module _ (p : Profile) (room : ℕ) (z : Sized p) where
-  pub compile-before : compileAnswer p room ≡ compileBefore p room
+module _ (rules : Ruleset) (p : Profile) (room : ℕ) (z : Sized p) where
+  pub compile-before : compileAnswer rules p room ≡ compileBefore (rules .version) p room
   unfolding compileAnswer compileBefore
-  compile-before = rw (check-before p z, words-before (p .tables) (p .field) (z .registers))
+  compile-before = rw (check-before rules p z, words-before (rules .version) (p .tables) (p .field) (z .registers))
 
-  pub counts-before : (counts : List ℕ) → compileCounts p room counts ≡ leftBefore holdCounts p room counts
+  pub counts-before : (counts : List ℕ) → compileCounts rules p room counts ≡ leftBefore (rules .version) holdCounts p room counts
   unfolding compileCounts leftBefore
-  counts-before counts = rw (check-before p z, words-before (p .tables) (p .field) (z .registers))
+  counts-before counts = rw (check-before rules p z, words-before (rules .version) (p .tables) (p .field) (z .registers))
 
-  pub words-left-before : (words : List ℕ) → compileWords p room words ≡ leftBefore holdWords p room words
+  pub words-left-before : (words : List ℕ) → compileWords rules p room words ≡ leftBefore (rules .version) holdWords p room words
   unfolding compileWords leftBefore
-  words-left-before words = rw (check-before p z, words-before (p .tables) (p .field) (z .registers))
+  words-left-before words = rw (check-before rules p z, words-before (rules .version) (p .tables) (p .field) (z .registers))

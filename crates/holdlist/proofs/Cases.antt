@@ -1,5 +1,5 @@
--- W1 to W12 as one table of questions and answers under one statement, and the least and the most bytes of a written script, which antt computes from
--- the definitions.
+-- One table of questions, each asked by a version of the rules, and of their answers, under one statement: W1 to W12 and the bytes of a written script by both
+-- versions alike, and 02's example of runs that flip by each. antt computes them from the definitions.
 -- Assumes nothing.
 use Prim.Native.Nat.{ℕ, _+_, _*_, _/_, _%_, _^_}
 use mathlib.Core.Path.{_≡_, refl}
@@ -9,6 +9,7 @@ use Rattle.profile.specs.Lists
 use Rattle.profile.specs.Lists.{chunks}
 use Rattle.profile.specs.Bytes.{twoBytes, threeBytes}
 use Rattle.profile.specs.Values
+use Rattle.profile.specs.Versions.{rulesetOf}
 use Rattle.profile.specs.Layout
 use Rattle.profile.specs.Patterns
 use Rattle.profile.specs.Geometry
@@ -53,23 +54,25 @@ pub data Question : Type 0 where
 abbrev verdict : Verdict → List ℕ
 verdict v = v .number ∷ v .place ∷ v .output ∷ v .toggle ∷ []
 
-abbrev profileOf : List ℕ → Profile
-profileOf s = readScript s .profile
+abbrev profileOf : ℕ → List ℕ → Profile
+profileOf v s = readScript (rulesetOf v) s .profile
 
-pub ask : List ℕ → Question → List (List ℕ)
-ask s read = verdict (readScript s .verdict) ∷ []
-ask s words = fieldWords (profileOf s .tables) (profileOf s .field) ∷ []
-ask s (output k) = map (λ (w : ℕ). w / 2 ^ k % 2) (fieldWords (profileOf s .tables) (profileOf s .field)) ∷ []
-ask s (level line pixel) =
-    (verdict (levelAnswer (profileOf s) line pixel .verdict) ++ (levelAnswer (profileOf s) line pixel .word ∷ [])) ∷ []
-ask s (compile cs ws) =
-    (verdict (compileAnswer (profileOf s) (roomOf cs ws) .verdict)
-    ++ (compileAnswer (profileOf s) (roomOf cs ws) .steps ∷ compileAnswer (profileOf s) (roomOf cs ws) .pixels ∷ []))
-    ∷ compileCounts (profileOf s) (roomOf cs ws) cs
-    ∷ compileWords (profileOf s) (roomOf cs ws) ws
+-- by a version of the rules
+pub ask : ℕ → List ℕ → Question → List (List ℕ)
+ask v s read = verdict (readScript (rulesetOf v) s .verdict) ∷ []
+ask v s words = fieldWords v (profileOf v s .tables) (profileOf v s .field) ∷ []
+ask v s (output k) = map (λ (w : ℕ). w / 2 ^ k % 2) (fieldWords v (profileOf v s .tables) (profileOf v s .field)) ∷ []
+ask v s (level line pixel) =
+    (verdict (levelAnswer (rulesetOf v) (profileOf v s) line pixel .verdict) ++ (levelAnswer (rulesetOf v) (profileOf v s) line pixel .word ∷ [])) ∷ []
+ask v s (compile cs ws) =
+    (verdict (compileAnswer (rulesetOf v) (profileOf v s) (roomOf cs ws) .verdict)
+    ++ (compileAnswer (rulesetOf v) (profileOf v s) (roomOf cs ws) .steps ∷ compileAnswer (rulesetOf v) (profileOf v s) (roomOf cs ws) .pixels ∷ []))
+    ∷ compileCounts (rulesetOf v) (profileOf v s) (roomOf cs ws) cs
+    ∷ compileWords (rulesetOf v) (profileOf v s) (roomOf cs ws) ws
     ∷ []
-ask s print = printed s ∷ []
-ask s (write room) = (verdict (writeAnswer (profileOf s) room .verdict) ++ (writeAnswer (profileOf s) room .length ∷ [])) ∷ []
+ask v s print = printed (rulesetOf v) s ∷ []
+ask v s (write room) =
+    (verdict (writeAnswer (rulesetOf v) (profileOf v s) room .verdict) ++ (writeAnswer (rulesetOf v) (profileOf v s) room .length ∷ [])) ∷ []
 
 -- ---- the scripts
 
@@ -120,6 +123,12 @@ two-lines first second =
     pattern 0x004001 0x003001 ++ unused ++ sequence 2 1 2 0 ++ twoBytes (18 ∷ 3 ∷ 3 ∷ 10 ∷ first ∷ second ∷ 65535 ∷ 1 ∷ 0 ∷ 0 ∷ 0 ∷ [])
     ++ twoBytes (10 ∷ 4 ∷ 0 ∷ 1 ∷ 1 ∷ 2 ∷ 5 ∷ []) ++ twoBytes (10 ∷ 5 ∷ 1 ∷ 2 ∷ 5 ∷ 1 ∷ 1 ∷ [])
 
+-- start level 1, length 4, one used toggle at 2, start 0, so many runs on lines of 8, in a mode
+abbrev one-toggle : ℕ → ℕ → ℕ → List ℕ
+one-toggle times mode lines =
+    pattern 0x004001 0xFFF002 ++ unused ++ twoBytes (14 ∷ 2 ∷ 0 ∷ 0 ∷ 8 ∷ 0 ∷ times ∷ times ∷ 0 ∷ [])
+    ++ twoBytes (16 ∷ 3 ∷ lines ∷ 8 ∷ 0 ∷ 65535 ∷ 1 ∷ 0 ∷ 0 ∷ mode ∷ [])
+
 -- A with every item that a profile has: ten sequences, seven regions of two lines and two gate lines, five gates, SUBCK, both shutters
 abbrev full : List ℕ
 full =
@@ -140,12 +149,13 @@ as-printed = refl
 -- ---- the table
 
 pub record Case : Type 0 where
+  pub version : ℕ
   pub script : List ℕ
   pub question : Question
   pub answer : List (List ℕ)
 
-abbrev case : List ℕ → Question → List (List ℕ) → Case
-case s q r = record { script = s; question = q; answer = r }
+abbrev case : ℕ → List ℕ → Question → List (List ℕ) → Case
+case v s q r = record { version = v; script = s; question = q; answer = r }
 
 -- W1: "A prints, whole"
 abbrev w1 : List ℕ
@@ -172,52 +182,69 @@ w1 =
 abbrev transfer : List ℕ
 transfer = replicate 2 1 ++ replicate 3 0 ++ replicate 5 1
 
-pub table : List Case
-table =
+-- by every version alike: W1 to W12, the bytes of a written script, and the second gate line
+pub alike : ℕ → List Case
+alike v =
     -- W1
-    case a print
+    case v a print
     (w1 ∷ [])
-    ∷ case a (compile (replicate 8 9) (replicate 8 9))
+    ∷ case v a (compile (replicate 8 9) (replicate 8 9))
     ((0 ∷ 0 ∷ 0 ∷ 0 ∷ 7 ∷ 20 ∷ [])
     ∷ (3 ∷ 2 ∷ 8 ∷ 2 ∷ 2 ∷ 2 ∷ 1 ∷ 9 ∷ [])
     ∷ (0x0FC1 ∷ 0x0FC0 ∷ 0x0FC1 ∷ 0x0FC0 ∷ 0x0FC1 ∷ 0x0FC0 ∷ 0x0FC1 ∷ 9 ∷ []) ∷ [])
-    ∷ case a words
+    ∷ case v a words
     ((replicate 3 0x0FC1 ++ replicate 2 0x0FC0 ++ replicate 8 0x0FC1 ++ replicate 2 0x0FC0 ++ replicate 2 0x0FC1 ++ replicate 2 0x0FC0 ++ replicate 1 0x0FC1) ∷ [])
     -- W2, W3, W4
-    ∷ case (pattern 0x004001 0x003001 ++ sequence 2 1 2 0 ++ field 2 0) read ((10 ∷ 0 ∷ 1 ∷ 3 ∷ []) ∷ [])
-    ∷ case [] read ((6 ∷ 0 ∷ 0 ∷ 0 ∷ []) ∷ [])
-    ∷ case (0x04 ∷ 0x00 ∷ 0x01 ∷ []) read ((2 ∷ 0 ∷ 0 ∷ 0 ∷ []) ∷ [])
+    ∷ case v (pattern 0x004001 0x003001 ++ sequence 2 1 2 0 ++ field 2 0) read ((10 ∷ 0 ∷ 1 ∷ 3 ∷ []) ∷ [])
+    ∷ case v [] read ((6 ∷ 0 ∷ 0 ∷ 0 ∷ []) ∷ [])
+    ∷ case v (0x04 ∷ 0x00 ∷ 0x01 ∷ []) read ((2 ∷ 0 ∷ 0 ∷ 0 ∷ []) ∷ [])
     -- W5: line 0 is 1110001111
-    ∷ case (masked 3 6) (output 0)
+    ∷ case v (masked 3 6) (output 0)
     ((1 ∷ 1 ∷ 1 ∷ 0 ∷ 0 ∷ 0 ∷ 1 ∷ 1 ∷ 1 ∷ 1 ∷ 1 ∷ 1 ∷ 1 ∷ 0 ∷ 0 ∷ 0 ∷ 1 ∷ 0 ∷ 0 ∷ 1 ∷ []) ∷ [])
     -- W6
-    ∷ case (masked 3 3) read ((11 ∷ 0 ∷ 0 ∷ 0 ∷ []) ∷ [])
+    ∷ case v (masked 3 3) read ((11 ∷ 0 ∷ 0 ∷ 0 ∷ []) ∷ [])
     -- W7, W8
-    ∷ case (sweep 7) read ((0 ∷ 0 ∷ 0 ∷ 0 ∷ []) ∷ [])
-    ∷ case (sweep 8) read ((13 ∷ 0 ∷ 0 ∷ 0 ∷ []) ∷ [])
+    ∷ case v (sweep 7) read ((0 ∷ 0 ∷ 0 ∷ 0 ∷ []) ∷ [])
+    ∷ case v (sweep 8) read ((13 ∷ 0 ∷ 0 ∷ 0 ∷ []) ∷ [])
     -- W9: high at field pixels 9 to 20
-    ∷ case (multiplier 5) (output 0) ((replicate 9 0 ++ replicate 12 1 ++ replicate 9 0) ∷ [])
+    ∷ case v (multiplier 5) (output 0) ((replicate 9 0 ++ replicate 12 1 ++ replicate 9 0) ∷ [])
     -- W10
-    ∷ case (multiplier 4) read ((12 ∷ 0 ∷ 0 ∷ 0 ∷ []) ∷ [])
+    ∷ case v (multiplier 4) read ((12 ∷ 0 ∷ 0 ∷ 0 ∷ []) ∷ [])
     -- W11
-    ∷ case a (compile (replicate 6 9) (replicate 8 9)) ((18 ∷ 7 ∷ 0 ∷ 0 ∷ 0 ∷ 0 ∷ []) ∷ replicate 6 9 ∷ replicate 8 9 ∷ [])
+    ∷ case v a (compile (replicate 6 9) (replicate 8 9)) ((18 ∷ 7 ∷ 0 ∷ 0 ∷ 0 ∷ 0 ∷ []) ∷ replicate 6 9 ∷ replicate 8 9 ∷ [])
     -- W12
-    ∷ case a (level 1 10) ((19 ∷ 0 ∷ 0 ∷ 0 ∷ 0 ∷ []) ∷ [])
+    ∷ case v a (level 1 10) ((19 ∷ 0 ∷ 0 ∷ 0 ∷ 0 ∷ []) ∷ [])
     -- "its longest script becomes 1,314 bytes", and "at least 998": both are reached
-    ∷ case a (write 998) ((0 ∷ 0 ∷ 0 ∷ 0 ∷ 998 ∷ []) ∷ [])
-    ∷ case full (write 1314) ((0 ∷ 0 ∷ 0 ∷ 0 ∷ 1314 ∷ []) ∷ [])
-    ∷ case full (write 1313) ((18 ∷ 1314 ∷ 0 ∷ 0 ∷ 0 ∷ []) ∷ [])
+    ∷ case v a (write 998) ((0 ∷ 0 ∷ 0 ∷ 0 ∷ 998 ∷ []) ∷ [])
+    ∷ case v full (write 1314) ((0 ∷ 0 ∷ 0 ∷ 0 ∷ 1314 ∷ []) ∷ [])
+    ∷ case v full (write 1313) ((18 ∷ 1314 ∷ 0 ∷ 0 ∷ 0 ∷ []) ∷ [])
     -- gate lines 1 and 0 of 3: VSG1 is low at pixels 2 to 4 of both, and SUBCK on line 2, after the one that is named first
-    ∷ case (two-lines 1 0) (output 6) ((transfer ++ transfer ++ replicate 10 1) ∷ [])
-    ∷ case (two-lines 1 0) (output 11) ((replicate 20 1 ++ transfer) ∷ [])
+    ∷ case v (two-lines 1 0) (output 6) ((transfer ++ transfer ++ replicate 10 1) ∷ [])
+    ∷ case v (two-lines 1 0) (output 11) ((replicate 20 1 ++ transfer) ∷ [])
     -- equal ones, one outside, and none
-    ∷ case (two-lines 1 1) read ((14 ∷ 0 ∷ 0 ∷ 0 ∷ []) ∷ [])
-    ∷ case (two-lines 1 3) read ((14 ∷ 0 ∷ 0 ∷ 0 ∷ []) ∷ [])
-    ∷ case (two-lines 1 65535) (output 6) ((replicate 10 1 ++ transfer ++ replicate 10 1) ∷ [])
+    ∷ case v (two-lines 1 1) read ((14 ∷ 0 ∷ 0 ∷ 0 ∷ []) ∷ [])
+    ∷ case v (two-lines 1 3) read ((14 ∷ 0 ∷ 0 ∷ 0 ∷ []) ∷ [])
+    ∷ case v (two-lines 1 65535) (output 6) ((replicate 10 1 ++ transfer ++ replicate 10 1) ∷ [])
     ∷ []
 
-pub cases : map (λ (c : Case). ask (c .script) (c .question)) table ≡ map (λ (c : Case). c .answer) table
-unfolding ask table flatMap
+-- "start level 1, length 4, one used toggle at 2, start 0, two runs on a line of 8: 01 gives 11001100, the camera gives 11000011"
+pub flipping : List Case
+flipping =
+    case 1 (one-toggle 2 0 1) (output 0) ((1 ∷ 1 ∷ 0 ∷ 0 ∷ 1 ∷ 1 ∷ 0 ∷ 0 ∷ []) ∷ [])
+    ∷ case 2 (one-toggle 2 0 1) (output 0) ((1 ∷ 1 ∷ 0 ∷ 0 ∷ 0 ∷ 0 ∷ 1 ∷ 1 ∷ []) ∷ [])
+    -- one run on two lines: the level stays after it, and the next line sets the start level again
+    ∷ case 1 (one-toggle 1 0 2) (output 0) ((1 ∷ 1 ∷ 0 ∷ 0 ∷ 1 ∷ 1 ∷ 1 ∷ 1 ∷ 1 ∷ 1 ∷ 0 ∷ 0 ∷ 1 ∷ 1 ∷ 1 ∷ 1 ∷ []) ∷ [])
+    ∷ case 2 (one-toggle 1 0 2) (output 0) ((1 ∷ 1 ∷ 0 ∷ 0 ∷ 0 ∷ 0 ∷ 0 ∷ 0 ∷ 1 ∷ 1 ∷ 0 ∷ 0 ∷ 0 ∷ 0 ∷ 0 ∷ 0 ∷ []) ∷ [])
+    -- three runs of a sweep on two lines: a line's end sets nothing
+    ∷ case 1 (one-toggle 3 1 2) (output 0) ((1 ∷ 1 ∷ 0 ∷ 0 ∷ 1 ∷ 1 ∷ 0 ∷ 0 ∷ 1 ∷ 1 ∷ 0 ∷ 0 ∷ 1 ∷ 1 ∷ 1 ∷ 1 ∷ []) ∷ [])
+    ∷ case 2 (one-toggle 3 1 2) (output 0) ((1 ∷ 1 ∷ 0 ∷ 0 ∷ 0 ∷ 0 ∷ 1 ∷ 1 ∷ 1 ∷ 1 ∷ 0 ∷ 0 ∷ 0 ∷ 0 ∷ 0 ∷ 0 ∷ []) ∷ [])
+    ∷ []
+
+pub table : List Case
+table = alike 1 ++ alike 2 ++ flipping
+
+pub cases : map (λ (c : Case). ask (c .version) (c .script) (c .question)) table ≡ map (λ (c : Case). c .answer) table
+unfolding ask alike flipping table flatMap
     Lists.all Lists.distinct Lists.chunks Lists.sum Lists.lastStart
     Values.emptyField Values.emptyTables
     Layout.halfPattern Layout.halfPart

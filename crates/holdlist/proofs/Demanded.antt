@@ -18,6 +18,7 @@ use Rattle.profile.specs.Rules.{checkProfile}
 use Rattle.profile.specs.declared.Tables.{Tables}
 use Rattle.profile.specs.declared.Field.{Field}
 use Rattle.profile.specs.declared.Profile.{Profile}
+use Rattle.profile.specs.declared.Ruleset.{Ruleset}
 use Rattle.profile.specs.declared.Verdict.{Verdict}
 use Rattle.profile.proofs.Laws.{by-cases}
 use Rattle.profile.proofs.Lines.{has-line, has-pixel}
@@ -63,9 +64,9 @@ abbrev pub Holds : (xs cs ws : List ℕ) (r : Compiled) (cs′ ws′ : List ℕ)
 Holds xs cs ws r cs′ ws′ =
     (r ≡ holdAnswer xs (roomOf cs ws)) × (cs′ ≡ holdCounts xs (roomOf cs ws) cs) × (ws′ ≡ holdWords xs (roomOf cs ws) ws)
 
-abbrev pub Leaves : (p : Profile) (cs ws : List ℕ) (r : Compiled) (cs′ ws′ : List ℕ) → Type 0
-Leaves p cs ws r cs′ ws′ =
-    (r ≡ compileAnswer p (roomOf cs ws)) × (cs′ ≡ compileCounts p (roomOf cs ws) cs) × (ws′ ≡ compileWords p (roomOf cs ws) ws)
+abbrev pub Leaves : (rules : Ruleset) (p : Profile) (cs ws : List ℕ) (r : Compiled) (cs′ ws′ : List ℕ) → Type 0
+Leaves rules p cs ws r cs′ ws′ =
+    (r ≡ compileAnswer rules p (roomOf cs ws)) × (cs′ ≡ compileCounts rules p (roomOf cs ws) cs) × (ws′ ≡ compileWords rules p (roomOf cs ws) ws)
 
 -- a claim of an answer and two lists holds of the same answer and lists
 pub same-claim :
@@ -93,40 +94,40 @@ module _ (xs cs ws : List ℕ) where
       (λ e. let h = leb-true (length (runs xs)) (roomOf cs ws) e in same-claim P (hold-fits h) (fits h))
       (λ e. let h = leb-false (length (runs xs)) (roomOf cs ws) e in same-claim P (hold-short h) (short h))
 
-module _ (p : Profile) (cs ws : List ℕ) where
+module _ (rules : Ruleset) (p : Profile) (cs ws : List ℕ) where
   -- the check's refusal
-  pub compile-refused : accepts (checkProfile p) ≡ false → Leaves p cs ws (unheld (checkProfile p)) cs ws
+  pub compile-refused : accepts (checkProfile rules p) ≡ false → Leaves rules p cs ws (unheld (checkProfile rules p)) cs ws
   unfolding compileAnswer compileCounts compileWords
   compile-refused e = (rw e, rw e, rw e)
 
-  module _ (ok : accepts (checkProfile p) ≡ true) where
+  module _ (ok : accepts (checkProfile rules p) ≡ true) where
     compile-held :
-        Leaves p cs ws (holdAnswer (profileWords p) (roomOf cs ws)) (holdCounts (profileWords p) (roomOf cs ws) cs)
-        (holdWords (profileWords p) (roomOf cs ws) ws)
+        Leaves rules p cs ws (holdAnswer (profileWords rules p) (roomOf cs ws)) (holdCounts (profileWords rules p) (roomOf cs ws) cs)
+        (holdWords (profileWords rules p) (roomOf cs ws) ws)
     unfolding compileAnswer compileCounts compileWords
     compile-held = (rw ok, rw ok, rw ok)
 
-    compile-so : {r : Compiled} {cs′ ws′ : List ℕ} → Holds (profileWords p) cs ws r cs′ ws′ → Leaves p cs ws r cs′ ws′
+    compile-so : {r : Compiled} {cs′ ws′ : List ℕ} → Holds (profileWords rules p) cs ws r cs′ ws′ → Leaves rules p cs ws r cs′ ws′
     compile-so {r} {cs′} {ws′} h = same-claim (λ s a b. (r ≡ s) × (cs′ ≡ a) × (ws′ ≡ b)) compile-held h
 
-    pub compile-short : roomOf cs ws < length (fieldRuns p) → Leaves p cs ws (noRoom (profileWords p)) cs ws
-    compile-short h = compile-so (hold-short (profileWords p) cs ws h)
+    pub compile-short : roomOf cs ws < length (fieldRuns rules p) → Leaves rules p cs ws (noRoom (profileWords rules p)) cs ws
+    compile-short h = compile-so (hold-short (profileWords rules p) cs ws h)
 
     pub compile-fits :
-        length (fieldRuns p) ≤ roomOf cs ws →
-        Leaves p cs ws (held (profileWords p)) (over (stepCounts (fieldRuns p)) cs) (over (stepWords (fieldRuns p)) ws)
-    compile-fits h = compile-so (hold-fits (profileWords p) cs ws h)
+        length (fieldRuns rules p) ≤ roomOf cs ws →
+        Leaves rules p cs ws (held (profileWords rules p)) (over (stepCounts (fieldRuns rules p)) cs) (over (stepWords (fieldRuns rules p)) ws)
+    compile-fits h = compile-so (hold-fits (profileWords rules p) cs ws h)
 
   pub compile-cases :
       (P : Compiled → List ℕ → List ℕ → Type 0) →
-      (accepts (checkProfile p) ≡ false → P (unheld (checkProfile p)) cs ws) →
-      (accepts (checkProfile p) ≡ true → roomOf cs ws < length (fieldRuns p) → P (noRoom (profileWords p)) cs ws) →
-      (accepts (checkProfile p) ≡ true → length (fieldRuns p) ≤ roomOf cs ws →
-      P (held (profileWords p)) (over (stepCounts (fieldRuns p)) cs) (over (stepWords (fieldRuns p)) ws)) →
-      P (compileAnswer p (roomOf cs ws)) (compileCounts p (roomOf cs ws) cs) (compileWords p (roomOf cs ws) ws)
+      (accepts (checkProfile rules p) ≡ false → P (unheld (checkProfile rules p)) cs ws) →
+      (accepts (checkProfile rules p) ≡ true → roomOf cs ws < length (fieldRuns rules p) → P (noRoom (profileWords rules p)) cs ws) →
+      (accepts (checkProfile rules p) ≡ true → length (fieldRuns rules p) ≤ roomOf cs ws →
+      P (held (profileWords rules p)) (over (stepCounts (fieldRuns rules p)) cs) (over (stepWords (fieldRuns rules p)) ws)) →
+      P (compileAnswer rules p (roomOf cs ws)) (compileCounts rules p (roomOf cs ws) cs) (compileWords rules p (roomOf cs ws) ws)
   compile-cases P wrong short fits =
-      by-cases (accepts (checkProfile p))
-      (λ ok. same-claim P (compile-held ok) (hold-cases (profileWords p) cs ws P (short ok) (fits ok)))
+      by-cases (accepts (checkProfile rules p))
+      (λ ok. same-claim P (compile-held ok) (hold-cases (profileWords rules p) cs ws P (short ok) (fits ok)))
       (λ e. same-claim P (compile-refused e) (wrong e))
 
 -- ---- the runs are the fewest
@@ -191,46 +192,46 @@ plays-asked xs cs ws used limit h shows ends =
 
 -- ---- a field's words
 
-module _ (t : Tables) (f : Field) where
-  pub field-small : (i : ℕ) → getD (fieldWords t f) i 0 < 2 ^ 16
-  field-small i = omega (arith, field-words-small t f i)
+module _ (version : ℕ) (t : Tables) (f : Field) where
+  pub field-small : (i : ℕ) → getD (fieldWords version t f) i 0 < 2 ^ 16
+  field-small i = omega (arith, field-words-small version t f i)
 
   module _ (cs ws : List ℕ) (used : ℕ) where
-    pub plays-field : Plays (fieldWords t f) cs ws used ↔ PlaysField t f cs ws used
+    pub plays-field : Plays (fieldWords version t f) cs ws used ↔ PlaysField version t f cs ws used
     plays-field =
-        let l = field-words-length t f in (
-          (λ p. record { shows = λ n h. p .shows n (rw l h) ∙ ap playedWord (field-word t f n h); ends = λ n h. p .ends n (rw l h) }),
+        let l = field-words-length version t f in (
+          (λ p. record { shows = λ n h. p .shows n (rw l h) ∙ ap playedWord (field-word version t f n h); ends = λ n h. p .ends n (rw l h) }),
           λ q.
               record {
-                shows = λ n h. let k : n < pixelCount t f = rw l at h in q .shows n k ∙ ap playedWord (sym (field-word t f n k));
+                shows = λ n h. let k : n < pixelCount t f = rw l at h in q .shows n k ∙ ap playedWord (sym (field-word version t f n k));
                 ends = λ n h. q .ends n (rw l at h);
               },
         )
 
     -- line by line and pixel by pixel
     pub plays-pixel :
-        Plays (fieldWords t f) cs ws used → (line pixel : ℕ) → hasPixel t f line pixel ≡ true →
-        playAnswer cs ws used (placeOf t f line pixel) ≡ playedWord (wordOf (lineOf t f line) pixel)
+        Plays (fieldWords version t f) cs ws used → (line pixel : ℕ) → hasPixel t f line pixel ≡ true →
+        playAnswer cs ws used (placeOf t f line pixel) ≡ playedWord (wordOf (lineOf version t f line) pixel)
     plays-pixel p line pixel h =
-        p .shows (placeOf t f line pixel) (rw (field-words-length t f) (place-below t f line pixel h))
-        ∙ ap playedWord (field-word-at t f line pixel (has-line t f line pixel h) (has-pixel t f line pixel h))
+        p .shows (placeOf t f line pixel) (rw (field-words-length version t f) (place-below t f line pixel h))
+        ∙ ap playedWord (field-word-at version t f line pixel (has-line t f line pixel h) (has-pixel t f line pixel h))
 
 -- ---- compiling
 
-pub field-few : (p : Profile) → checkProfile p ≡ accepted → length (profileWords p) < 2 ^ 32
-field-few p e = omega (arith, few-pixels (p .tables) (p .field) (accepted-fillable p e))
+pub field-few : (rules : Ruleset) (p : Profile) → checkProfile rules p ≡ accepted → length (profileWords rules p) < 2 ^ 32
+field-few rules p e = omega (arith, few-pixels (rules .version) (p .tables) (p .field) (accepted-fillable rules p e))
 
--- Demand 3, whole: for every accepted profile and any lent lists
+-- Demand 3, whole: for every version of the rules, every accepted profile and any lent lists
 pub demand-3 :
-    (p : Profile) (cs ws : List ℕ) → checkProfile p ≡ accepted →
-    Demand (profileWords p) cs ws (compileAnswer p (roomOf cs ws)) (compileCounts p (roomOf cs ws) cs) (compileWords p (roomOf cs ws) ws)
-demand-3 p cs ws e =
-    same-claim (Demand (profileWords p) cs ws) (compile-held p cs ws (ap accepts e))
-    (hold-meets (profileWords p) cs ws (field-few p e) (field-small (p .tables) (p .field)))
+    (rules : Ruleset) (p : Profile) (cs ws : List ℕ) → checkProfile rules p ≡ accepted →
+    Demand (profileWords rules p) cs ws (compileAnswer rules p (roomOf cs ws)) (compileCounts rules p (roomOf cs ws) cs) (compileWords rules p (roomOf cs ws) ws)
+demand-3 rules p cs ws e =
+    same-claim (Demand (profileWords rules p) cs ws) (compile-held rules p cs ws (ap accepts e))
+    (hold-meets (profileWords rules p) cs ws (field-few rules p e) (field-small (rules .version) (p .tables) (p .field)))
 
 -- and, of what compile ensures, each line's pixel shows its word
 pub demand-3-pixels :
-    (p : Profile) {cs ws : List ℕ} {r : Compiled} {cs′ ws′ : List ℕ} → Demand (profileWords p) cs ws r cs′ ws′ → r .verdict .number ≡ 0 →
+    (rules : Ruleset) (p : Profile) {cs ws : List ℕ} {r : Compiled} {cs′ ws′ : List ℕ} → Demand (profileWords rules p) cs ws r cs′ ws′ → r .verdict .number ≡ 0 →
     (line pixel : ℕ) → hasPixel (p .tables) (p .field) line pixel ≡ true →
-    playAnswer cs′ ws′ (r .steps) (placeOf (p .tables) (p .field) line pixel) ≡ playedWord (wordOf (lineOf (p .tables) (p .field) line) pixel)
-demand-3-pixels p d z = plays-pixel (p .tables) (p .field) _ _ _ (d .plays z)
+    playAnswer cs′ ws′ (r .steps) (placeOf (p .tables) (p .field) line pixel) ≡ playedWord (wordOf (lineOf (rules .version) (p .tables) (p .field) line) pixel)
+demand-3-pixels rules p d z = plays-pixel (rules .version) (p .tables) (p .field) _ _ _ (d .plays z)

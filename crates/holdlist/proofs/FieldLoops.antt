@@ -12,6 +12,7 @@ use Rattle.profile.specs.Rules.{checkProfile}
 use Rattle.profile.specs.declared.Tables.{Tables}
 use Rattle.profile.specs.declared.Field.{Field}
 use Rattle.profile.specs.declared.Profile.{Profile}
+use Rattle.profile.specs.declared.Ruleset.{Ruleset}
 use Rattle.profile.proofs.Laws.{length-chunks-le}
 use Rattle.profile.proofs.Checked.{check-range}
 use Rattle.profile.proofs.Accepted.{accepted-field, accepted-ordered}
@@ -22,39 +23,40 @@ use Rattle.level.specs.Fieldwords.{lineWords, wordsOnLine, fieldWords}
 use Rattle.level.proofs.Words.{line-words-length, line-of-length, region-words}
 use Rattle.holdlist.specs.Fills.{Fillable, regionWords}
 
-pub accepted-fillable : (p : Profile) → checkProfile p ≡ accepted → Fillable (p .tables) (p .field)
-accepted-fillable p e =
-    let range = check-range p e in
-    let field = accepted-field p e in
-    record { ordered = accepted-ordered p e; lengths = line-length-most p range field; lines = ranged p range field .most-lines }
+pub accepted-fillable : (rules : Ruleset) (p : Profile) → checkProfile rules p ≡ accepted → Fillable (p .tables) (p .field)
+accepted-fillable rules p e =
+    let range = check-range rules p e in
+    let field = accepted-field rules p e in
+    record { ordered = accepted-ordered rules p e; lengths = line-length-most p range field; lines = ranged p range field .most-lines }
 
-module _ (t : Tables) (f : Field) where
+module _ (t : Tables) (f : Field) (ok : Fillable t f) where
+  pub region-starts : (i : ℕ) → i < regionCount f → firstLine f i ≤ endLine f i
+  region-starts i h = omega (arith, start-before-end f (ok .ordered) i h)
+
+  pub region-ends : (i : ℕ) → endLine f i ≤ f .lines
+  region-ends i = end-most f (ok .ordered) i
+
+module _ (version : ℕ) (t : Tables) (f : Field) where
   -- a line that is made has its length, and its words are those of the field's line
-  module _ (line : ℕ) (h : line < f .lines) {made : Line} (e : made ≡ lineOf t f line) where
+  module _ (line : ℕ) (h : line < f .lines) {made : Line} (e : made ≡ lineOf version t f line) where
     pub made-length : made .length ≡ lineLength t f line
-    made-length = ap (λ (l : Line). l .length) e ∙ line-of-length t f line h
+    made-length = ap (λ (l : Line). l .length) e ∙ line-of-length version t f line h
 
-    pub made-words : lineWords made (made .length) ≡ wordsOnLine t f line
+    pub made-words : lineWords made (made .length) ≡ wordsOnLine version t f line
     made-words = ap (lineWords made) made-length ∙ ap (λ (l : Line). lineWords l (lineLength t f line)) e
 
-  pub words-length : (line : ℕ) → length (wordsOnLine t f line) ≡ lineLength t f line
-  words-length line = line-words-length (lineOf t f line) (lineLength t f line)
+  pub words-length : (line : ℕ) → length (wordsOnLine version t f line) ≡ lineLength t f line
+  words-length line = line-words-length (lineOf version t f line) (lineLength t f line)
 
   module _ (ok : Fillable t f) where
-    pub few-pixels : length (fieldWords t f) ≤ 16769025
+    pub few-pixels : length (fieldWords version t f) ≤ 16769025
     unfolding fieldWords
     few-pixels =
         omega (
           arith,
           ok .lines,
-          length-chunks-le 4095 (f .lines) (wordsOnLine t f) (λ line. rw (words-length line) (ok .lengths line)),
+          length-chunks-le 4095 (f .lines) (wordsOnLine version t f) (λ line. rw (words-length line) (ok .lengths line)),
         )
 
-    pub region-starts : (i : ℕ) → i < regionCount f → firstLine f i ≤ endLine f i
-    region-starts i h = omega (arith, start-before-end f (ok .ordered) i h)
-
-    pub region-ends : (i : ℕ) → endLine f i ≤ f .lines
-    region-ends i = end-most f (ok .ordered) i
-
-    pub regions-whole : chunks (regionCount f) (regionWords t f) ≡ fieldWords t f
-    regions-whole = sym (region-words t f (ok .ordered))
+    pub regions-whole : chunks (regionCount f) (regionWords version t f) ≡ fieldWords version t f
+    regions-whole = sym (region-words version t f (ok .ordered))

@@ -11,17 +11,18 @@ use lib.Dec.{ltb, leb}
 use Rattle.profile.specs.Values.{Names}
 use Rattle.profile.specs.declared.Profile.{Profile}
 use Rattle.profile.specs.declared.Verdict.{Verdict}
+use Rattle.profile.specs.declared.Ruleset.{Ruleset}
 use Rattle.profile.proofs.Named.{names-none, names-accepted, tested-names, after-check}
 use Rattle.holdlist.specs.declared.Compiled.{Compiled}
 use Rattle.holdlist.specs.declared.Played.{Played}
 use Rattle.holdlist.specs.Compile.{holdVerdict, holdAnswer, fieldRuns, compileAnswer}
 use Rattle.holdlist.specs.Play.{walk, playAnswer}
 
-pub compile-names : (p : Profile) (room : ℕ) → Names (compileAnswer p room .verdict)
+pub compile-names : (rules : Ruleset) (p : Profile) (room : ℕ) → Names (compileAnswer rules p room .verdict)
 unfolding compileAnswer holdAnswer holdVerdict
-compile-names p room =
-    after-check (λ (a : Compiled). a .verdict) p _ _
-    (tested-names (λ (v : Verdict). v) (leb (length (fieldRuns p)) room) _ _ names-accepted (names-none 18 _ (omega arith))) refl
+compile-names rules p room =
+    after-check (λ (a : Compiled). a .verdict) rules p _ _
+    (tested-names (λ (v : Verdict). v) (leb (length (fieldRuns rules p)) room) _ _ names-accepted (names-none 18 _ (omega arith))) refl
 
 walk-names : (cs ws : List ℕ) (n : ℕ) → Names (walk cs ws n .verdict)
 unfolding walk

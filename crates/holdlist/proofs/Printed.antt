@@ -10,12 +10,13 @@ use lib.ListN.{length, getD, drop, length-append, length-map, List·getD-append}
 use Rattle.profile.specs.Lists.{over}
 use Rattle.profile.specs.Script.{readScript}
 use Rattle.profile.specs.declared.Profile.{Profile}
+use Rattle.profile.specs.declared.Ruleset.{Ruleset}
 use Rattle.profile.specs.declared.ReadAnswer.{ReadAnswer}
 use Rattle.profile.proofs.Laws.{by-cases, chunks-ext}
 use Rattle.holdlist.specs.declared.Compiled.{Compiled}
 use Rattle.holdlist.specs.Runs.{stepCount, stepWord, stepCounts, stepWords}
 use Rattle.holdlist.specs.Compile.{roomOf, profileWords, fieldRuns, compileAnswer, compileCounts, compileWords, Compiles}
-use Rattle.holdlist.specs.Text.{headLine, stepLineAt, listing, refusedLine, printedAnswer, printedOf, printed}
+use Rattle.holdlist.specs.Text.{headLine, stepLineAt, listing, refusedLine, printedAnswer, printedOf, printed, Puts, PutsText}
 use Rattle.holdlist.proofs.Demanded.{compile-cases}
 use Rattle.holdlist.proofs.Spelling.{Wide, listing-length, refused-length}
 
@@ -61,29 +62,34 @@ module _ (steps pixels : ℕ) (cs ws us vs : List ℕ) where
 
 -- so the lists that a compile leaves tell what the field's runs tell
 pub answer-runs :
-    (p : Profile) (cs ws : List ℕ) →
-    printedAnswer (compileAnswer p (roomOf cs ws)) (compileCounts p (roomOf cs ws) cs) (compileWords p (roomOf cs ws) ws)
-    ≡ printedAnswer (compileAnswer p (roomOf cs ws)) (stepCounts (fieldRuns p)) (stepWords (fieldRuns p))
+    (rules : Ruleset) (p : Profile) (cs ws : List ℕ) →
+    printedAnswer (compileAnswer rules p (roomOf cs ws)) (compileCounts rules p (roomOf cs ws) cs) (compileWords rules p (roomOf cs ws) ws)
+    ≡ printedAnswer (compileAnswer rules p (roomOf cs ws)) (stepCounts (fieldRuns rules p)) (stepWords (fieldRuns rules p))
 unfolding printedAnswer
-answer-runs p cs ws =
-    compile-cases p cs ws (λ r cs′ ws′. printedAnswer r cs′ ws′ ≡ printedAnswer r (stepCounts (fieldRuns p)) (stepWords (fieldRuns p)))
+answer-runs rules p cs ws =
+    compile-cases rules p cs ws (λ r cs′ ws′. printedAnswer r cs′ ws′ ≡ printedAnswer r (stepCounts (fieldRuns rules p)) (stepWords (fieldRuns rules p)))
     (λ e. rw e)
     (λ ok h. refl)
     (λ ok h.
-    listing-over (length (fieldRuns p)) (length (profileWords p)) (stepCounts (fieldRuns p)) (stepWords (fieldRuns p)) cs ws
-    (length-map (fieldRuns p) stepCount) (length-map (fieldRuns p) stepWord))
+    listing-over (length (fieldRuns rules p)) (length (profileWords rules p)) (stepCounts (fieldRuns rules p)) (stepWords (fieldRuns rules p)) cs ws
+    (length-map (fieldRuns rules p) stepCount) (length-map (fieldRuns rules p) stepWord))
 
 -- ---- what is printed for a script
 
 pub printed-refused :
-    (script : List ℕ) (a : ReadAnswer) → a ≡ readScript script → (a .verdict .number ≡ 0 → ⊥) →
-    refusedLine (a .verdict) ≡ printed script
+    (rules : Ruleset) (script : List ℕ) (a : ReadAnswer) → a ≡ readScript rules script → (a .verdict .number ≡ 0 → ⊥) →
+    refusedLine (a .verdict) ≡ printed rules script
 unfolding printed
-printed-refused script a e n = rw (← e) (rw (ne-eqb (a .verdict .number) 0 n))
+printed-refused rules script a e n = rw (← e) (rw (ne-eqb (a .verdict .number) 0 n))
 
 pub printed-told :
-    (script : List ℕ) (a : ReadAnswer) {r : Compiled} {cs ws cs′ ws′ : List ℕ} → a ≡ readScript script → a .verdict .number ≡ 0 →
-    roomOf cs ws ≡ 4096 → Compiles (a .profile) cs ws r cs′ ws′ → printedAnswer r cs′ ws′ ≡ printed script
+    (rules : Ruleset) (script : List ℕ) (a : ReadAnswer) {r : Compiled} {cs ws cs′ ws′ : List ℕ} → a ≡ readScript rules script → a .verdict .number ≡ 0 →
+    roomOf cs ws ≡ 4096 → Compiles rules (a .profile) cs ws r cs′ ws′ → printedAnswer r cs′ ws′ ≡ printed rules script
 unfolding printed printedOf
-printed-told script a {cs = cs} {ws = ws} e z m c =
-    rw (c .answer, c .counts, c .words) (answer-runs (a .profile) cs ws ∙ rw (m, ← e) (rw (eq-eqb (a .verdict .number) 0 z)))
+printed-told rules script a {cs = cs} {ws = ws} e z m c =
+    rw (c .answer, c .counts, c .words) (answer-runs rules (a .profile) cs ws ∙ rw (m, ← e) (rw (eq-eqb (a .verdict .number) 0 z)))
+
+-- a text that is printed for a script, put
+pub puts-text : {rules : Ruleset} {script b l l′ : List ℕ} {at next : ℕ} → Puts b l at next l′ → b ≡ printed rules script → length b ≤ 55 + 16 * 4096
+    → PutsText rules script l at next l′
+puts-text p e h = record { puts = rw (← e) p; short = rw (← e) h }

@@ -18,6 +18,7 @@ use Rattle.profile.specs.Rules.{checkProfile}
 use Rattle.profile.specs.Script.{mostBytes, readScript}
 use Rattle.profile.specs.Records.{unread, taken, Reads}
 use Rattle.profile.specs.declared.Profile.{Profile}
+use Rattle.profile.specs.declared.Ruleset.{Ruleset}
 use Rattle.profile.specs.declared.Verdict.{Verdict}
 use Rattle.profile.specs.declared.ReadAnswer.{ReadAnswer}
 use Rattle.profile.proofs.Laws.{by-cases}
@@ -37,154 +38,154 @@ use Rattle.holdlist.proofs.Readback.{refusal-told, listing-told, tells-
 
 -- ---- the field's runs, as they are listed
 
-module _ (p : Profile) where
+module _ (rules : Ruleset) (p : Profile) where
   abbrev steps : ℕ
-  steps = length (fieldRuns p)
+  steps = length (fieldRuns rules p)
 
   abbrev pixels : ℕ
   pixels = pixelCount (p .tables) (p .field)
 
   abbrev counts : List ℕ
-  counts = stepCounts (fieldRuns p)
+  counts = stepCounts (fieldRuns rules p)
 
   abbrev words : List ℕ
-  words = stepWords (fieldRuns p)
+  words = stepWords (fieldRuns rules p)
 
   abbrev list : List ℕ
   list = listing steps pixels counts words
 
 -- ---- what is printed, by what the script reads to
 
-module _ (s : List ℕ) where
-  printed-unread : (v : Verdict) → readScript s ≡ unread v → 1 ≤ v .number → printed s ≡ refusedLine v
+module _ (rules : Ruleset) (s : List ℕ) where
+  printed-unread : (v : Verdict) → readScript rules s ≡ unread v → 1 ≤ v .number → printed rules s ≡ refusedLine v
   unfolding printed
   printed-unread v e h = rw e (rw (ne-eqb (v .number) 0 (omega arith)))
 
-  module _ (p : Profile) (e : readScript s ≡ taken p) (ok : checkProfile p ≡ accepted) where
-    printed-no-room : 4096 < steps p → printed s ≡ refusedLine (refused 18 (steps p))
+  module _ (p : Profile) (e : readScript rules s ≡ taken p) (ok : checkProfile rules p ≡ accepted) where
+    printed-no-room : 4096 < steps rules p → printed rules s ≡ refusedLine (refused 18 (steps rules p))
     unfolding printed printedOf printedAnswer compileAnswer holdAnswer holdVerdict
-    printed-no-room h = rw e (rw (ok, lt-leb (steps p) 4096 h))
+    printed-no-room h = rw e (rw (ok, lt-leb (steps rules p) 4096 h))
 
-    printed-list : steps p ≤ 4096 → printed s ≡ list p
+    printed-list : steps rules p ≤ 4096 → printed rules s ≡ list rules p
     unfolding printed printedOf printedAnswer compileAnswer holdAnswer holdVerdict
-    printed-list h = rw e (rw (ok, le-leb (steps p) 4096 h, field-words-length (p .tables) (p .field)))
+    printed-list h = rw e (rw (ok, le-leb (steps rules p) 4096 h, field-words-length (rules .version) (p .tables) (p .field)))
 
 -- ---- the field's runs are its shortest list, and no other is
 
-module _ (p : Profile) where
+module _ (rules : Ruleset) (p : Profile) where
   abbrev xs : List ℕ
-  xs = profileWords p
+  xs = profileWords rules p
 
-  shortest : Shortest p (steps p) (counts p) (words p)
+  shortest : Shortest rules p (steps rules p) (counts rules p) (words rules p)
   shortest =
       record {
         counts-length = counts-many xs;
         words-length = words-many xs;
-        plays = plays-field (p .tables) (p .field) _ _ _ .0 (encoded-whole xs);
-        least = λ cs ws used q. no-fewer xs cs ws used (plays-field (p .tables) (p .field) cs ws used .1 q);
+        plays = plays-field (rules .version) (p .tables) (p .field) _ _ _ .0 (encoded-whole xs);
+        least = λ cs ws used q. no-fewer xs cs ws used (plays-field (rules .version) (p .tables) (p .field) cs ws used .1 q);
       }
 
-  module _ {k : ℕ} {cs ws : List ℕ} (w : Shortest p k cs ws) where
-    shortest-steps : k ≡ steps p
+  module _ {k : ℕ} {cs ws : List ℕ} (w : Shortest rules p k cs ws) where
+    shortest-steps : k ≡ steps rules p
     shortest-steps = omega (arith, w .least _ _ _ (shortest .plays), shortest .least _ _ _ (w .plays))
 
-    shortest-one : (cs ≡ counts p) × (ws ≡ words p)
+    shortest-one : (cs ≡ counts rules p) × (ws ≡ words rules p)
     shortest-one =
-        let x = expands xs cs ws k (plays-field (p .tables) (p .field) cs ws k .1 (w .plays)) in
+        let x = expands xs cs ws k (plays-field (rules .version) (p .tables) (p .field) cs ws k .1 (w .plays)) in
         let a : take k cs ≡ cs = take-all k cs (omega (arith, w .counts-length)) in
         let b : take k ws ≡ ws = take-all k ws (omega (arith, w .words-length)) in
         runs-one cs ws xs (rw (a, b) at x) (w .counts-length ∙ shortest-steps) (w .words-length ∙ sym (w .counts-length))
 
-  list-told : Tells (list p) (steps p) (pixels p) (counts p) (words p)
+  list-told : Tells (list rules p) (steps rules p) (pixels rules p) (counts rules p) (words rules p)
   list-told =
-      listing-told (steps p) (pixels p) (counts p) (words p) (counts-many xs) (words-many xs)
-      (λ i. omega (arith, runs-word (2 ^ 16) xs (field-small (p .tables) (p .field)) i))
+      listing-told (steps rules p) (pixels rules p) (counts rules p) (words rules p) (counts-many xs) (words-many xs)
+      (λ i. omega (arith, runs-word (2 ^ 16) xs (field-small (rules .version) (p .tables) (p .field)) i))
 
 -- ---- what a script reads to
 
-module _ (s : List ℕ) (b : Bytes s) where
+module _ (rules : Ruleset) (s : List ℕ) (b : Bytes s) where
   -- a profile that is taken is accepted
-  taken-accepted : (p : Profile) → readScript s ≡ taken p → checkProfile p ≡ accepted
+  taken-accepted : (p : Profile) → readScript rules s ≡ taken p → checkProfile rules p ≡ accepted
   taken-accepted p e =
-      subst (λ (r : ReadAnswer). checkProfile (r .profile) ≡ accepted) e (read-accepted s (ap (λ (r : ReadAnswer). r .verdict .number) e))
+      subst (λ (r : ReadAnswer). checkProfile rules (r .profile) ≡ accepted) e (read-accepted rules s (ap (λ (r : ReadAnswer). r .verdict .number) e))
 
   -- no refusal has the number 0: the empty profile has no field
-  unread-number : (v : Verdict) → readScript s ≡ unread v → 1 ≤ v .number
+  unread-number : (v : Verdict) → readScript rules s ≡ unread v → 1 ≤ v .number
   unfolding emptyField
   unread-number v e =
       by-cases (eqb (v .number) 0)
       (λ q.
-      let z : readScript s .verdict .number ≡ 0 = ap (λ (r : ReadAnswer). r .verdict .number) e ∙ eqb-true (v .number) 0 q in
-      let a : checkProfile emptyProfile ≡ accepted = subst (λ (r : ReadAnswer). checkProfile (r .profile) ≡ accepted) e (read-accepted s z) in
-      absurd (false≢true (accepted-field emptyProfile a)))
+      let z : readScript rules s .verdict .number ≡ 0 = ap (λ (r : ReadAnswer). r .verdict .number) e ∙ eqb-true (v .number) 0 q in
+      let a : checkProfile rules emptyProfile ≡ accepted = subst (λ (r : ReadAnswer). checkProfile rules (r .profile) ≡ accepted) e (read-accepted rules s z) in
+      absurd (false≢true (accepted-field rules emptyProfile a)))
       (λ q. omega (arith, eqb-false (v .number) 0 q))
 
-  reads : {a : ReadAnswer} → readScript s ≡ a → Reads s a
-  reads {a} e = read-exactly s b a .0 e
+  reads : {a : ReadAnswer} → readScript rules s ≡ a → Reads rules s a
+  reads {a} e = read-exactly rules s b a .0 e
 
   -- ---- what is printed is so
 
-  prints-taken : (p : Profile) → readScript s ≡ taken p → Prints s (printed s)
+  prints-taken : (p : Profile) → readScript rules s ≡ taken p → Prints rules s (printed rules s)
   prints-taken p e =
       let ok = taken-accepted p e in
-      by-cases (leb (steps p) 4096)
+      by-cases (leb (steps rules p) 4096)
       (λ q.
-      let h = leb-true (steps p) 4096 q in
-      steps-told p (steps p) (counts p) (words p) (reads e) (shortest p) h
-      (subst (λ (t : List ℕ). Tells t (steps p) (pixels p) (counts p) (words p)) (sym (printed-list s p e ok h)) (list-told p)))
+      let h = leb-true (steps rules p) 4096 q in
+      steps-told p (steps rules p) (counts rules p) (words rules p) (reads e) (shortest rules p) h
+      (subst (λ (t : List ℕ). Tells t (steps rules p) (pixels rules p) (counts rules p) (words rules p)) (sym (printed-list rules s p e ok h)) (list-told rules p)))
       (λ q.
-      let h = leb-false (steps p) 4096 q in
-      no-room p (steps p) (counts p) (words p) (reads e) (shortest p) h
-      (subst (λ (t : List ℕ). TellsRefusal t (refused 18 (steps p))) (sym (printed-no-room s p e ok h)) (refusal-told (refused 18 (steps p)))))
+      let h = leb-false (steps rules p) 4096 q in
+      no-room p (steps rules p) (counts rules p) (words rules p) (reads e) (shortest rules p) h
+      (subst (λ (t : List ℕ). TellsRefusal t (refused 18 (steps rules p))) (sym (printed-no-room rules s p e ok h)) (refusal-told (refused 18 (steps rules p)))))
 
-  prints-unread : (v : Verdict) → readScript s ≡ unread v → Prints s (printed s)
+  prints-unread : (v : Verdict) → readScript rules s ≡ unread v → Prints rules s (printed rules s)
   prints-unread v e =
       refusal v (reads e)
-      (subst (λ (t : List ℕ). TellsRefusal t v) (sym (printed-unread s v e (unread-number v e))) (refusal-told v))
+      (subst (λ (t : List ℕ). TellsRefusal t v) (sym (printed-unread rules s v e (unread-number v e))) (refusal-told v))
 
-  printed-so : Prints s (printed s)
+  printed-so : Prints rules s (printed rules s)
   printed-so =
-      let v = readScript s .verdict in
+      let v = readScript rules s .verdict in
       by-cases (eqb (v .number) 0)
-      (λ q. prints-taken (readScript s .profile) (ap (λ (w : Verdict). record { verdict = w; profile = readScript s .profile }) (read-verdict s (eqb-true (v .number) 0 q))))
+      (λ q. prints-taken (readScript rules s .profile) (ap (λ (w : Verdict). record { verdict = w; profile = readScript rules s .profile }) (read-verdict rules s (eqb-true (v .number) 0 q))))
       (λ q.
       prints-unread v
-      (ap (λ (p : Profile). record { verdict = v; profile = p }) (read-refused s (eqb-false (v .number) 0 q))))
+      (ap (λ (p : Profile). record { verdict = v; profile = p }) (read-refused rules s (eqb-false (v .number) 0 q))))
 
   -- ---- and no other text is
 
-  printed-one : (text : List ℕ) → Prints s text → printed s ≡ text
+  printed-one : (text : List ℕ) → Prints rules s text → printed rules s ≡ text
   printed-one text (refusal v r t) =
-      let e = read-exactly s b (unread v) .1 r in
-      printed-unread s v e (unread-number v e) ∙ tells-refusal-one _ text v (refusal-told v) t
+      let e = read-exactly rules s b (unread v) .1 r in
+      printed-unread rules s v e (unread-number v e) ∙ tells-refusal-one _ text v (refusal-told v) t
   printed-one text (no-room p k cs ws r w h t) =
-      let e = read-exactly s b (taken p) .1 r in
-      let same = shortest-steps p w in
-      printed-no-room s p e (taken-accepted p e) (omega (arith, h, same))
-      ∙ tells-refusal-one _ text (refused 18 (steps p)) (refusal-told (refused 18 (steps p))) (rw same at t)
+      let e = read-exactly rules s b (taken p) .1 r in
+      let same = shortest-steps rules p w in
+      printed-no-room rules s p e (taken-accepted p e) (omega (arith, h, same))
+      ∙ tells-refusal-one _ text (refused 18 (steps rules p)) (refusal-told (refused 18 (steps rules p))) (rw same at t)
   printed-one text (steps-told p k cs ws r w h t) =
-      let e = read-exactly s b (taken p) .1 r in
-      let same = shortest-steps p w in
-      let lists = shortest-one p w in
-      printed-list s p e (taken-accepted p e) (omega (arith, h, same))
-      ∙ tells-one _ text (steps p) (pixels p) (counts p) (words p) (list-told p) (rw (same, lists .0, lists .1) at t)
+      let e = read-exactly rules s b (taken p) .1 r in
+      let same = shortest-steps rules p w in
+      let lists = shortest-one rules p w in
+      printed-list rules s p e (taken-accepted p e) (omega (arith, h, same))
+      ∙ tells-one _ text (steps rules p) (pixels rules p) (counts rules p) (words rules p) (list-told rules p) (rw (same, lists .0, lists .1) at t)
 
   -- for every sequence of bytes: exactly the refusal of the first broken rule, or S, P and the S steps of the shortest list that plays the field
-  pub printed-exactly : (text : List ℕ) → (printed s ≡ text) ↔ Prints s text
-  printed-exactly text = ((λ e. subst (Prints s) e printed-so), printed-one text)
+  pub printed-exactly : (text : List ℕ) → (printed rules s ≡ text) ↔ Prints rules s text
+  printed-exactly text = ((λ e. subst (Prints rules s) e printed-so), printed-one text)
 
 -- ---- what is past the first 16,385 bytes makes no difference: the program may stop reading there
 
-too-long : (s : List ℕ) → mostBytes < length s → readScript s ≡ unread (refused 1 0)
+too-long : (rules : Ruleset) (s : List ℕ) → mostBytes < length s → readScript rules s ≡ unread (refused 1 0)
 unfolding readScript
-too-long s h = rw (lt-leb (length s) mostBytes h)
+too-long rules s h = rw (lt-leb (length s) mostBytes h)
 
-pub printed-enough : (s : List ℕ) → printed (take 16385 s) ≡ printed s
-printed-enough s =
+pub printed-enough : (rules : Ruleset) (s : List ℕ) → printed rules (take 16385 s) ≡ printed rules s
+printed-enough rules s =
     by-cases (leb (length s) 16385)
-    (λ q. ap printed (take-all 16385 s (leb-true (length s) 16385 q)))
+    (λ q. ap (printed rules) (take-all 16385 s (leb-true (length s) 16385 q)))
     (λ q.
     let h = leb-false (length s) 16385 q in
     let l : length (take 16385 s) ≡ 16385 = length-take-le 16385 s (omega arith) in
-    printed-unread (take 16385 s) (refused 1 0) (too-long (take 16385 s) (omega arith)) (omega arith)
-    ∙ sym (printed-unread s (refused 1 0) (too-long s (omega arith)) (omega arith)))
+    printed-unread rules (take 16385 s) (refused 1 0) (too-long rules (take 16385 s) (omega arith)) (omega arith)
+    ∙ sym (printed-unread rules s (refused 1 0) (too-long rules s (omega arith)) (omega arith)))

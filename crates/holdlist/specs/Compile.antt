@@ -11,6 +11,7 @@ use Rattle.profile.specs.Values.{accepted, refused, accepts}
 use Rattle.profile.specs.Rules.{checkProfile}
 use Rattle.profile.specs.declared.Profile.{Profile}
 use Rattle.profile.specs.declared.Verdict.{Verdict}
+use Rattle.profile.specs.declared.Ruleset.{Ruleset}
 use Rattle.level.specs.Fieldwords.{fieldWords}
 use Rattle.holdlist.specs.declared.Step.{Step}
 use Rattle.holdlist.specs.declared.Compiled.{Compiled}
@@ -44,27 +45,27 @@ holdWords xs room words = cond (accepts (holdVerdict xs room)) (over (stepWords 
 
 -- ---- a profile's field: the check's refusal, which leaves both lists as they were, or its words held
 
-abbrev pub profileWords : Profile → List ℕ
-profileWords p = fieldWords (p .tables) (p .field)
+abbrev pub profileWords : Ruleset → Profile → List ℕ
+profileWords rules p = fieldWords (rules .version) (p .tables) (p .field)
 
 -- its runs of equal words
-abbrev pub fieldRuns : Profile → List Step
-fieldRuns p = runs (profileWords p)
+abbrev pub fieldRuns : Ruleset → Profile → List Step
+fieldRuns rules p = runs (profileWords rules p)
 
-unfoldable pub compileAnswer : Profile → ℕ → Compiled
-compileAnswer p room =
-    cond (accepts (checkProfile p)) (holdAnswer (profileWords p) room) (record { verdict = checkProfile p; steps = 0; pixels = 0 })
+unfoldable pub compileAnswer : Ruleset → Profile → ℕ → Compiled
+compileAnswer rules p room =
+    cond (accepts (checkProfile rules p)) (holdAnswer (profileWords rules p) room) (record { verdict = checkProfile rules p; steps = 0; pixels = 0 })
 
-unfoldable pub compileCounts : Profile → ℕ → List ℕ → List ℕ
-compileCounts p room counts = cond (accepts (checkProfile p)) (holdCounts (profileWords p) room counts) counts
+unfoldable pub compileCounts : Ruleset → Profile → ℕ → List ℕ → List ℕ
+compileCounts rules p room counts = cond (accepts (checkProfile rules p)) (holdCounts (profileWords rules p) room counts) counts
 
-unfoldable pub compileWords : Profile → ℕ → List ℕ → List ℕ
-compileWords p room words = cond (accepts (checkProfile p)) (holdWords (profileWords p) room words) words
+unfoldable pub compileWords : Ruleset → Profile → ℕ → List ℕ → List ℕ
+compileWords rules p room words = cond (accepts (checkProfile rules p)) (holdWords (profileWords rules p) room words) words
 
--- what compile ensures: r is answered for the profile p where the lists are cs and ws, which are cs′ and ws′ then
-pub record Compiles (p : Profile) (cs ws : List ℕ) (r : Compiled) (cs′ ws′ : List ℕ) : Type 0 where
-  pub answer : r ≡ compileAnswer p (roomOf cs ws)
-  pub counts : cs′ ≡ compileCounts p (roomOf cs ws) cs
-  pub words : ws′ ≡ compileWords p (roomOf cs ws) ws
+-- what compile ensures: r is answered by the rules for the profile p where the lists are cs and ws, which are cs′ and ws′ then
+pub record Compiles (rules : Ruleset) (p : Profile) (cs ws : List ℕ) (r : Compiled) (cs′ ws′ : List ℕ) : Type 0 where
+  pub answer : r ≡ compileAnswer rules p (roomOf cs ws)
+  pub counts : cs′ ≡ compileCounts rules p (roomOf cs ws) cs
+  pub words : ws′ ≡ compileWords rules p (roomOf cs ws) ws
   -- demand 3
-  pub demand : checkProfile p ≡ accepted → Demand (profileWords p) cs ws r cs′ ws′
+  pub demand : checkProfile rules p ≡ accepted → Demand (profileWords rules p) cs ws r cs′ ws′

@@ -49,7 +49,7 @@ pub record Demand (xs cs ws : List ℕ) (r : Compiled) (cs′ ws′ : List ℕ) 
   pub keeps : (r .verdict .number ≡ 0 → ⊥) → (cs′ ≡ cs) × (ws′ ≡ ws)
   pub rest : r .verdict .number ≡ 0 → (drop (r .steps) cs′ ≡ drop (r .steps) cs) × (drop (r .steps) ws′ ≡ drop (r .steps) ws)
 
--- a list plays a field: what `Plays` says of the field's words (proofs/Demanded.antt: plays-field), by the field's lines and pixels
-pub record PlaysField (t : Tables) (f : Field) (cs ws : List ℕ) (used : ℕ) : Type 0 where
-  pub shows : (n : ℕ) → n < pixelCount t f → playAnswer cs ws used n ≡ playedWord (wordOf (lineOf t f (lineAt t f n)) (pixelAt t f n))
+-- a list plays a field by a rule version: what `Plays` says of the field's words (proofs/Demanded.antt: plays-field), by the field's lines and pixels
+pub record PlaysField (version : ℕ) (t : Tables) (f : Field) (cs ws : List ℕ) (used : ℕ) : Type 0 where
+  pub shows : (n : ℕ) → n < pixelCount t f → playAnswer cs ws used n ≡ playedWord (wordOf (lineOf version t f (lineAt t f n)) (pixelAt t f n))
   pub ends : (n : ℕ) → pixelCount t f ≤ n → playAnswer cs ws used n ≡ playedNothing 19

@@ -25,11 +25,11 @@ pub record Fillable (t : Tables) (f : Field) : Type 0 where
   pub lines : f .lines ≤ 4095
 
 -- the words of n lines from line a on, and of region i: "The lists are filled region by region"
-abbrev pub linesWords : Tables → Field → ℕ → ℕ → List ℕ
-linesWords t f a n = chunks n (λ k. wordsOnLine t f (a + k))
+abbrev pub linesWords : ℕ → Tables → Field → ℕ → ℕ → List ℕ
+linesWords version t f a n = chunks n (λ k. wordsOnLine version t f (a + k))
 
-abbrev pub regionWords : Tables → Field → ℕ → List ℕ
-regionWords t f i = linesWords t f (firstLine f i) (endLine f i - firstLine f i)
+abbrev pub regionWords : ℕ → Tables → Field → ℕ → List ℕ
+regionWords version t f i = linesWords version t f (firstLine f i) (endLine f i - firstLine f i)
 
 -- ---- how it is written
 

@@ -13,6 +13,7 @@ use Rattle.profile.specs.Values.{accepts}
 use Rattle.profile.specs.Script.{readScript}
 use Rattle.profile.specs.declared.Profile.{Profile}
 use Rattle.profile.specs.declared.Verdict.{Verdict}
+use Rattle.profile.specs.declared.Ruleset.{Ruleset}
 use Rattle.holdlist.specs.declared.Compiled.{Compiled}
 use Rattle.holdlist.specs.Runs.{stepCounts, stepWords}
 use Rattle.holdlist.specs.Compile.{fieldRuns, roomOf, compileAnswer}
@@ -92,13 +93,13 @@ printedAnswer c cs ws =
     cond (accepts (c .verdict)) (listing (c .steps) (c .pixels) cs ws) (refusedLine (c .verdict))
 
 -- what is printed for a script; "has room for 4,096 steps"
-unfoldable pub printedOf : Profile → List ℕ
-printedOf p = printedAnswer (compileAnswer p 4096) (stepCounts (fieldRuns p)) (stepWords (fieldRuns p))
+unfoldable pub printedOf : Ruleset → Profile → List ℕ
+printedOf rules p = printedAnswer (compileAnswer rules p 4096) (stepCounts (fieldRuns rules p)) (stepWords (fieldRuns rules p))
 
-unfoldable pub printed : List ℕ → List ℕ
-printed script =
-    cond (accepts (readScript script .verdict)) (printedOf (readScript script .profile))
-    (refusedLine (readScript script .verdict))
+unfoldable pub printed : Ruleset → List ℕ → List ℕ
+printed rules script =
+    cond (accepts (readScript rules script .verdict)) (printedOf rules (readScript rules script .profile))
+    (refusedLine (readScript rules script .verdict))
 
 -- ---- stores
 
@@ -111,3 +112,8 @@ pub record Puts (bytes old : List ℕ) (at next : ℕ) (new : List ℕ) : Type 0
 pub record PutsPrinted (c : Compiled) (cs ws old : List ℕ) (at next : ℕ) (new : List ℕ) : Type 0 where
   pub puts : Puts (printedAnswer c cs ws) old at next new
   pub short : length (printedAnswer c cs ws) ≤ 55 + 16 * roomOf cs ws
+
+-- and what is printed for a script by the rules, of at most 4,096 steps
+pub record PutsText (rules : Ruleset) (script old : List ℕ) (at next : ℕ) (new : List ℕ) : Type 0 where
+  pub puts : Puts (printed rules script) old at next new
+  pub short : length (printed rules script) ≤ 55 + 16 * 4096

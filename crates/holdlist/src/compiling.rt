@@ -1,19 +1,27 @@
 // A field compiled into the shortest hold list, in two passes of one writer: the first is given no room and counts, the second fills.
+ghost use Rattle.profile.specs.Versions.{newestRules};
 ghost use Rattle.holdlist.specs.Compile.{Compiles};
 use crate::Compiled;
 use crate::filling::fill_field;
 use crate::steps::least;
 use profile::Profile;
+use profile::Ruleset;
 use profile::accept;
-use profile::check;
+use profile::check_in;
+use profile::newest_rules;
 use profile::pixel_count;
 use profile::refuse;
 
 // Compiles a profile's field into two lent lists: the check's refusal, 18 with the steps needed, or the steps used and the pixels.
-pub fn compile(profile: Profile, counts: &mut [u32], words: &mut [u16]) -> Compiled
-    ensures { λ r. ⌜ Compiles profile (now (counts .entry)) (now (words .entry)) r (now (counts .exit)) (now (words .exit)) ⌝ }
+pub fn compile_in(
+    rules: Ruleset,
+    profile: Profile,
+    counts: &mut [u32],
+    words: &mut [u16],
+) -> Compiled
+    ensures { λ r. ⌜ Compiles rules profile (now (counts .entry)) (now (words .entry)) r (now (counts .exit)) (now (words .exit)) ⌝ }
 {
-    let verdict = check(profile);
+    let verdict = check_in(rules, profile);
     if verdict.number != 0 {
         return Compiled {
             verdict,
@@ -23,7 +31,13 @@ pub fn compile(profile: Profile, counts: &mut [u32], words: &mut [u16]) -> Compi
     }
     let tables = profile.tables;
     let field = profile.field;
-    let need = fill_field(tables, field, &mut counts[0..0], &mut words[0..0]);
+    let need = fill_field(
+        rules.version,
+        tables,
+        field,
+        &mut counts[0..0],
+        &mut words[0..0],
+    );
     if least(counts.len(), words.len()) < need {
         return Compiled {
             verdict: refuse(18, need as u64),
@@ -31,10 +45,17 @@ pub fn compile(profile: Profile, counts: &mut [u32], words: &mut [u16]) -> Compi
             pixels: 0,
         };
     }
-    let steps = fill_field(tables, field, counts, words);
+    let steps = fill_field(rules.version, tables, field, counts, words);
     Compiled {
         verdict: accept(),
         steps,
         pixels: pixel_count(tables, field),
     }
+}
+
+// The same by the newest rules.
+pub fn compile(profile: Profile, counts: &mut [u32], words: &mut [u16]) -> Compiled
+    ensures { λ r. ⌜ Compiles newestRules profile (now (counts .entry)) (now (words .entry)) r (now (counts .exit)) (now (words .exit)) ⌝ }
+{
+    compile_in(newest_rules(), profile, counts, words)
 }

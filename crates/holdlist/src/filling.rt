@@ -119,6 +119,7 @@ fn fill_line(line: Line, n: usize, o: Step, counts: &mut [u32], words: &mut [u16
 
 // n lines of a field from line `first` on are pushed, each given only what is free of both lists.
 fn fill_lines(
+    version: u16,
     tables: Tables,
     field: Field,
     first: u64,
@@ -129,14 +130,14 @@ fn fill_lines(
 ) -> Filled
     requires { ⌜ first + n ≤ field .lines ⌝ }
     requires { ⌜ ((line : ℕ) → lineLength tables field line ≤ 4095) ⌝ }
-    requires { ⌜ o .count + length (linesWords tables field first n) < 2 ^ 32 ⌝ }
-    ensures { λ r. ⌜ Fills o (linesWords tables field first n) (now (counts .entry)) (now (words .entry)) (r .steps) (r .held) (now (counts .exit)) (now (words .exit)) ⌝ }
+    requires { ⌜ o .count + length (linesWords version tables field first n) < 2 ^ 32 ⌝ }
+    ensures { λ r. ⌜ Fills o (linesWords version tables field first n) (now (counts .entry)) (now (words .entry)) (r .steps) (r .held) (now (counts .exit)) (now (words .exit)) ⌝ }
 {
     let mut held = o;
     let mut used: usize = 0;
     let mut k: u64 = 0;
     while k < n {
-        let line = line_of(tables, field, first + k);
+        let line = line_of(version, tables, field, first + k);
         let c = least(used, counts.len());
         let d = least(used, words.len());
         let r = fill_line(
@@ -156,6 +157,7 @@ fn fill_lines(
 
 // Region i is pushed: its writer gets the open step, and what is free of both lists after the steps already used.
 fn fill_region(
+    version: u16,
     tables: Tables,
     field: Field,
     i: usize,
@@ -165,17 +167,27 @@ fn fill_region(
 ) -> Filled
     requires { ⌜ Fillable tables field ⌝ }
     requires { ⌜ i < regionCount field ⌝ }
-    requires { ⌜ o .count + length (regionWords tables field i) < 2 ^ 32 ⌝ }
-    ensures { λ r. ⌜ Fills o (regionWords tables field i) (now (counts .entry)) (now (words .entry)) (r .steps) (r .held) (now (counts .exit)) (now (words .exit)) ⌝ }
+    requires { ⌜ o .count + length (regionWords version tables field i) < 2 ^ 32 ⌝ }
+    ensures { λ r. ⌜ Fills o (regionWords version tables field i) (now (counts .entry)) (now (words .entry)) (r .steps) (r .held) (now (counts .exit)) (now (words .exit)) ⌝ }
 {
     let region = region_at(field, i);
     let first = region.first;
     let n = end_line(field, i) - first;
-    fill_lines(tables, field, first as u64, n as u64, o, counts, words)
+    fill_lines(
+        version,
+        tables,
+        field,
+        first as u64,
+        n as u64,
+        o,
+        counts,
+        words,
+    )
 }
 
 // All regions in order, pushed onto the open step.
 fn fill_regions(
+    version: u16,
     tables: Tables,
     field: Field,
     o: Step,
@@ -183,8 +195,8 @@ fn fill_regions(
     words: &mut [u16],
 ) -> Filled
     requires { ⌜ Fillable tables field ⌝ }
-    requires { ⌜ o .count + length (fieldWords tables field) < 2 ^ 32 ⌝ }
-    ensures { λ r. ⌜ Fills o (fieldWords tables field) (now (counts .entry)) (now (words .entry)) (r .steps) (r .held) (now (counts .exit)) (now (words .exit)) ⌝ }
+    requires { ⌜ o .count + length (fieldWords version tables field) < 2 ^ 32 ⌝ }
+    ensures { λ r. ⌜ Fills o (fieldWords version tables field) (now (counts .entry)) (now (words .entry)) (r .steps) (r .held) (now (counts .exit)) (now (words .exit)) ⌝ }
 {
     let n = region_count(field);
     let mut held = o;
@@ -193,7 +205,15 @@ fn fill_regions(
     while i < n {
         let c = least(used, counts.len());
         let d = least(used, words.len());
-        let r = fill_region(tables, field, i, held, &mut counts[c..], &mut words[d..]);
+        let r = fill_region(
+            version,
+            tables,
+            field,
+            i,
+            held,
+            &mut counts[c..],
+            &mut words[d..],
+        );
         let next = r.held;
         held = next;
         used += r.steps;
@@ -204,16 +224,17 @@ fn fill_regions(
 
 // The whole field, its last step closed: written as far as there is room, and always counted.
 pub(crate) fn fill_field(
+    version: u16,
     tables: Tables,
     field: Field,
     counts: &mut [u32],
     words: &mut [u16],
 ) -> usize
     requires { ⌜ Fillable tables field ⌝ }
-    ensures { λ r. ⌜ Writes (runs (fieldWords tables field)) (now (counts .entry)) (now (words .entry)) r (now (counts .exit)) (now (words .exit)) ⌝ }
+    ensures { λ r. ⌜ Writes (runs (fieldWords version tables field)) (now (counts .entry)) (now (words .entry)) r (now (counts .exit)) (now (words .exit)) ⌝ }
 {
     let empty = Step { count: 0, word: 0 };
-    let filled = fill_regions(tables, field, empty, counts, words);
+    let filled = fill_regions(version, tables, field, empty, counts, words);
     let used = filled.steps;
     let held = filled.held;
     let c = least(used, counts.len());

@@ -1,13 +1,16 @@
 // Hold lists: u32 counts beside u16 words. A field is compiled into the shortest list that plays it.
 use profile::Verdict;
 
+mod answering;
 mod compiling;
 mod filling;
 mod playing;
 mod steps;
 mod text;
 
+pub use answering::put_text_in;
 pub use compiling::compile;
+pub use compiling::compile_in;
 pub use playing::play;
 pub use text::put_byte;
 pub use text::put_bytes;

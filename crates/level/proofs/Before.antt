@@ -19,8 +19,9 @@ use Rattle.profile.specs.declared.Tables.{Tables}
 use Rattle.profile.specs.declared.Field.{Field}
 use Rattle.profile.specs.declared.Profile.{Profile}
 use Rattle.profile.specs.declared.Verdict.{Verdict}
+use Rattle.profile.specs.declared.Ruleset.{Ruleset}
 use Rattle.profile.proofs.Before.{patternBefore, pattern-before, checkBefore, check-before}
-use Rattle.level.specs.Line.{among, gatesHere, subckHere, shutterHere, lineWith, noLine, lineOf}
+use Rattle.level.specs.Line.{among, gatesHere, subckHere, shutterHere, runOf, originOf, lineWith, noLine, lineOf}
 use Rattle.level.specs.Word.{wordOf}
 use Rattle.level.specs.Fieldwords.{lineWords, fieldWords}
 use Rattle.level.specs.Place.{noLevel, levelAnswer, noPlace, placeAnswer, locateAnswer}
@@ -30,14 +31,14 @@ use Rattle.level.specs.declared.Located.{Located}
 
 -- the line of region r, whose number is i, with sequence s and that sequence's pattern a, a second pattern that is read by its number, and
 -- the given gate lines
-abbrev lineWithBy : (ℕ → Pattern) → List ℕ → Tables → Field → ℕ → ℕ → Region → Sequence → Pattern → Line
-lineWithBy pattern gates t f line i r s a =
+abbrev lineWithBy : ℕ → (ℕ → Pattern) → List ℕ → Tables → Field → ℕ → ℕ → Region → Sequence → Pattern → Line
+lineWithBy version pattern gates t f line i r s a =
     record {
       length = lengthIn t f i line;
-      mode = r .mode;
+      run = runOf version (r .mode);
       pattern = a;
       start = s .start;
-      origin = regionPixels t f i line;
+      origin = originOf (r .mode) (regionPixels t f i line);
       repetitions = repetitions s line;
       mask1 = record { on = pairOn (s .mask) 1; freeze = a .freeze1; resume = a .resume1 };
       mask2 = record { on = pairOn (s .mask) 2; freeze = a .freeze2; resume = a .resume2 };
@@ -49,12 +50,12 @@ lineWithBy pattern gates t f line i r s a =
       strobe = shutterHere (getD (t .shutters) 1 emptyShutter) line (lengthIn t f i line);
     }
 
-abbrev lineBy : (ℕ → Pattern) → List ℕ → Tables → Field → ℕ → ℕ → Line
-lineBy pattern gates t f line i =
-    lineWithBy pattern gates t f line i (regionAt f i) (sequenceOf t (regionAt f i .sequence)) (pattern (sequenceOf t (regionAt f i .sequence) .pattern))
+abbrev lineBy : ℕ → (ℕ → Pattern) → List ℕ → Tables → Field → ℕ → ℕ → Line
+lineBy version pattern gates t f line i =
+    lineWithBy version pattern gates t f line i (regionAt f i) (sequenceOf t (regionAt f i .sequence)) (pattern (sequenceOf t (regionAt f i .sequence) .pattern))
 
-unfoldable pub lineWhere : (ℕ → Pattern) → List ℕ → Tables → Field → ℕ → Line
-lineWhere pattern gates t f line = cond (ltb line (f .lines)) (lineBy pattern gates t f line (regionOf f line)) noLine
+unfoldable pub lineWhere : ℕ → (ℕ → Pattern) → List ℕ → Tables → Field → ℕ → Line
+lineWhere version pattern gates t f line = cond (ltb line (f .lines)) (lineBy version pattern gates t f line (regionOf f line)) noLine
 
 -- the words of a field by its lines, and what is answered of a level and a place by the check's verdict and the line
 abbrev pub wordsBy : (ℕ → Line) → Tables → Field → List ℕ
@@ -69,38 +70,38 @@ levelBy v lines t f line pixel =
 abbrev pub locateBy : Verdict → Profile → ℕ → Located
 locateBy v p n = cond (accepts v) (placeAnswer (p .tables) (p .field) n) (noPlace v)
 
-pub lineBefore : Tables → Field → ℕ → Line
-lineBefore t f line = lineWhere (patternBefore (t .registers)) (gateLines f) t f line
+pub lineBefore : ℕ → Tables → Field → ℕ → Line
+lineBefore version t f line = lineWhere version (patternBefore (t .registers)) (gateLines f) t f line
 
-pub wordsBefore : Tables → Field → List ℕ
-wordsBefore t f = wordsBy (lineBefore t f) t f
+pub wordsBefore : ℕ → Tables → Field → List ℕ
+wordsBefore version t f = wordsBy (lineBefore version t f) t f
 
-pub levelBefore : Profile → ℕ → ℕ → LevelAnswer
-levelBefore p line pixel = levelBy (checkBefore p) (lineBefore (p .tables) (p .field)) (p .tables) (p .field) line pixel
+pub levelBefore : ℕ → Profile → ℕ → ℕ → LevelAnswer
+levelBefore version p line pixel = levelBy (checkBefore p) (lineBefore version (p .tables) (p .field)) (p .tables) (p .field) line pixel
 
-pub line-where : (t : Tables) (f : Field) (line : ℕ) → lineOf t f line ≡ lineWhere (patternOf (t .registers)) (gateLines f) t f line
+pub line-where : (version : ℕ) (t : Tables) (f : Field) (line : ℕ) → lineOf version t f line ≡ lineWhere version (patternOf (t .registers)) (gateLines f) t f line
 unfolding lineOf lineWith lineWhere
-line-where t f line = refl
+line-where version t f line = refl
 
-pub line-before : (t : Tables) (f : Field) (line : ℕ) → length (t .registers) ≡ 240 → lineOf t f line ≡ lineBefore t f line
+pub line-before : (version : ℕ) (t : Tables) (f : Field) (line : ℕ) → length (t .registers) ≡ 240 → lineOf version t f line ≡ lineBefore version t f line
 unfolding lineBefore
-line-before t f line e =
-    line-where t f line ∙ ap (λ (pattern : ℕ → Pattern). lineWhere pattern (gateLines f) t f line) (λ i k. pattern-before (t .registers) e k i)
+line-before version t f line e =
+    line-where version t f line ∙ ap (λ (pattern : ℕ → Pattern). lineWhere version pattern (gateLines f) t f line) (λ i k. pattern-before (t .registers) e k i)
 
 -- every word of a field
-pub words-before : (t : Tables) (f : Field) → length (t .registers) ≡ 240 → fieldWords t f ≡ wordsBefore t f
+pub words-before : (version : ℕ) (t : Tables) (f : Field) → length (t .registers) ≡ 240 → fieldWords version t f ≡ wordsBefore version t f
 unfolding fieldWords wordsBefore
-words-before t f e =
-    ap (λ (lines : ℕ → Line). wordsBy lines t f) (λ i line. line-before t f line e i)
+words-before version t f e =
+    ap (λ (lines : ℕ → Line). wordsBy lines t f) (λ i line. line-before version t f line e i)
 
 -- and every level that is asked for
-pub level-before : (p : Profile) (line pixel : ℕ) → Sized p → levelAnswer p line pixel ≡ levelBefore p line pixel
+pub level-before : (rules : Ruleset) (p : Profile) (line pixel : ℕ) → Sized p → levelAnswer rules p line pixel ≡ levelBefore (rules .version) p line pixel
 unfolding levelAnswer levelBefore
-level-before p line pixel z = rw (check-before p z, line-before (p .tables) (p .field) line (z .registers))
+level-before rules p line pixel z = rw (check-before rules p z, line-before (rules .version) (p .tables) (p .field) line (z .registers))
 
 pub locateBefore : Profile → ℕ → Located
 locateBefore p n = locateBy (checkBefore p) p n
 
-pub locate-before : (p : Profile) (n : ℕ) → Sized p → locateAnswer p n ≡ locateBefore p n
+pub locate-before : (rules : Ruleset) (p : Profile) (n : ℕ) → Sized p → locateAnswer rules p n ≡ locateBefore p n
 unfolding locateAnswer locateBefore
-locate-before p n z = rw (check-before p z)
+locate-before rules p n z = rw (check-before rules p z)

@@ -5,14 +5,14 @@ use mathlib.Core.Path.{_≡_, refl, sym, ap, subst, _∙_}
 use mathlib.Core.Bool.{Bool, true, false, cond, _&&_}
 use mathlib.Core.List.{List, [], _∷_, _++_, map}
 use Prim.Native.Nat.{ℕ, zero, suc, _+_, _-_, _*_, _/_, _%_, _≤_, _<_}
-use native.Mathlib.Nat.{le-div-iff-mul-le, mod-lt, mul-le-mul, mul-zero, div-one}
+use native.Mathlib.Nat.{le-div-iff-mul-le, mod-lt, mul-le-mul, mul-zero, mul-comm, mul-assoc, add-mul, div-one, div-add-mod'}
 use native.Mathlib.Numerals.{add-one}
 use native.Mathlib.Omega.{arith}
-use borrow.Author.Tests.{ltb-true, ltb-false, leb-true, leb-false, lt-ltb, le-ltb, le-leb, lt-leb, eqb-true, eqb-false}
+use borrow.Author.Tests.{ltb-true, ltb-false, leb-true, leb-false, lt-ltb, le-ltb, le-leb, lt-leb, eqb-true, eqb-false, eq-eqb, ne-eqb}
 use lib.Dec.{ltb, leb, eqb}
 use lib.ListN.{length, getD, take, set}
 use lib.Seq.{take-suc-set}
-use Rattle.profile.proofs.Laws.{cond-case, by-cases, chunks-more}
+use Rattle.profile.proofs.Laws.{cond-case, by-cases, and-right, chunks-more}
 use Rattle.profile.specs.Lists.{chunks}
 use Rattle.profile.specs.Patterns.{rowOf, rowsOf, not4095, used}
 use Rattle.profile.specs.declared.Mode.the-variants.{Plain}
@@ -24,7 +24,11 @@ use Rattle.level.specs.Word.{
   within,
   flips,
   startLevel,
+  usedToggles,
+  runFlips,
+  runToggles,
   runLevel,
+  carriedLevel,
   timesLevel,
   firstLevel,
   secondLevel,
@@ -36,8 +40,9 @@ use Rattle.level.specs.Word.{
 }
 use Rattle.level.specs.declared.outputs.Edges.{Edges}
 use Rattle.level.specs.declared.outputs.Ready.{Ready}
-use Rattle.level.specs.Ready.{firstWord, secondWord, othersWord, firstAt, secondAt, secondBegun, countAt, sideAt, unmaskedAt, edgesAt, noEdges, eightAt, Stays}
-use Rattle.level.specs.Count.{runCount, keyOf, countTo, timesCount, upTo, passed, keysOf, sixAt}
+use Rattle.level.specs.declared.outputs.Kept.{Kept}
+use Rattle.level.specs.Ready.{firstWord, secondWord, othersWord, firstTurn, firstAt, secondAt, secondBegun, sideOf, countAt, sideAt, unmaskedAt, edgesAt, noEdges, eightAt, Stays, Keeps}
+use Rattle.level.specs.Count.{runCount, runTurn, keyOf, countTo, timesCount, upTo, passed, keysOf, sixAt}
 
 -- ---- choices
 
@@ -171,6 +176,19 @@ run-far start length r q hs hl hr =
     over : (q : ℕ) → start ≤ q → r * length ≤ q - start → runCount start length r q ≡ 0
     over q g h = rw (le-ltb q start g, le-ltb (q - start) (r * length) h)
 
+pub turn-far : (start length r q : ℕ) → start < 65536 → length < 65536 → r < 65536
+    → runTurn start length r (upTo 4294967295 q) ≡ runTurn start length r q
+turn-far start length r q hs hl hr =
+    by-cases (ltb q 4294967295)
+    (λ e. rw e)
+    (λ e.
+    let far = ltb-false q 4294967295 e in
+    let all = product16 r length hr hl in
+    rw e (over 4294967295 (omega arith) (omega arith) ∙ sym (over q (omega arith) (omega arith))))
+  where
+    over : (q : ℕ) → start ≤ q → r * length ≤ q - start → runTurn start length r q ≡ r
+    over q g h = rw (le-ltb q start g, le-ltb (q - start) (r * length) h)
+
 pub times-far : (start length q : ℕ) → start < 65536 → length < 65536
     → timesCount start length (upTo 4294967295 q) ≡ timesCount start length q
 times-far start length q hs hl =
@@ -189,12 +207,7 @@ times-far start length q hs hl =
         let all = product16 65535 length (omega arith) hl in
         rw (le-ltb q start (omega arith), z) (count-top ((q - start) / length) (le-div-iff-mul-le pos .1 (omega arith))))
 
--- ---- the three kinds of counts, for output k of a pattern, from a level x whose low bit is its start level
-
-abbrev runAt : Pattern → ℕ → ℕ → ℕ → ℕ → List ℕ → ℕ
-runAt a start r q y row =
-    cond (ltb q start) y
-    (cond (ltb (q - start) (r * a .length)) (flipped y (flips (used Plain (a .length)) 1 row ((q - start) % a .length))) y)
+-- ---- multiplier and second pattern, for output k of a pattern, from a level x whose low bit is its start level
 
 abbrev timesAt : Pattern → ℕ → ℕ → ℕ → List ℕ → ℕ
 timesAt a start q y row = cond (ltb q start) y (flipped y (flips not4095 (a .length) row (q - start)))
@@ -203,25 +216,6 @@ abbrev lateAt : Pattern → ℕ → ℕ → List ℕ → ℕ
 lateAt a p y row = flipped y (flips not4095 1 row (p - a .length))
 
 module _ (a : Pattern) (small : Small (a .toggles)) where
-  run-out : (start r q x k : ℕ)
-      → flipped x (passed (runCount start (a .length) r q) (keyRow (λ y. y) a k)) ≡ runAt a start r q (x % 2) (rowOf (a .toggles) k)
-  run-out start r q x k =
-      push F (ltb q start) _ _
-      ∙ by-test (ltb q start) (λ e. still x (rowOf (a .toggles) k))
-      (λ e.
-      push F (ltb (q - start) (r * a .length)) _ _
-      ∙ by-test (ltb (q - start) (r * a .length))
-      (λ h.
-      let pos = run-has-length r (a .length) (q - start) (ltb-true (q - start) (r * a .length) h) in
-      low-bit x _
-      ∙ ap (flipped (x % 2))
-      (counted (λ y. y) (used Plain (a .length)) ((q - start) % a .length + 1) 1 ((q - start) % a .length) a k small
-      (λ y l. run-toggle (a .length) ((q - start) % a .length) y (mod-lt (q - start) pos))))
-      (λ h. still x (rowOf (a .toggles) k)))
-    where
-      F : ℕ → ℕ
-      F n = flipped x (passed n (rowOf (a .toggles) k))
-
   -- the toggles up to m are those whose multiple is at or below t
   key-out : (m scale t x k : ℕ) → ((y : ℕ) → y < 65536 → leb y m ≡ leb (y * scale) t)
       → flipped x (passed (countTo m) (keyRow keyOf a k)) ≡ flipped (x % 2) (flips not4095 scale (rowOf (a .toggles) k) t)
@@ -266,10 +260,6 @@ module _ (a : Pattern) (small : Small (a .toggles)) where
       first i + f (a .levels / 2) 1 i * 2 + f (a .levels / 4) 2 i * 4 + f (a .levels / 8) 3 i * 8 + f (a .levels / 16) 4 i * 16
       + f (a .levels / 32) 5 i * 32
 
-  pub run-word : (start r q : ℕ)
-      → sixAt (a .levels) (rowsOf (a .toggles)) (runCount start (a .length) r q) ≡ six (λ k. runLevel a start r k q)
-  run-word start r q = six-out (λ y. y) (runCount start (a .length) r q) (runAt a start r q) (run-out start r q)
-
   pub times-word : (start q : ℕ)
       → sixAt (a .levels) (rowsOf (keysOf (a .toggles))) (timesCount start (a .length) q) ≡ six (λ k. timesLevel a start k q)
   times-word start q = six-out keyOf (timesCount start (a .length) q) (timesAt a start q) (times-out start q)
@@ -277,6 +267,131 @@ module _ (a : Pattern) (small : Small (a .toggles)) where
   pub second-word : (p : ℕ)
       → sixAt (a .levels) (rowsOf (keysOf (a .toggles))) (countTo (p - a .length)) ≡ six (λ k. secondLevel a k p)
   second-word p = six-out keyOf (countTo (p - a .length)) (lateAt a p) (late-out p)
+
+-- ---- runs: each repetition begins with one of two sets of levels, and its keys decide from there
+
+-- six bits, of which each is flipped by its keys
+bits-out : (a : Pattern) (n : ℕ) (g : ℕ → ℕ) → ((k : ℕ) → g k < 2)
+    → sixAt (six g) (rowsOf (a .toggles)) n ≡ six (λ k. flipped (g k) (passed n (rowOf (a .toggles) k)))
+bits-out a n g h =
+    let b0 : (m : ℕ) → flipped (six g) m ≡ flipped (g 0) m = λ m. omega (arith, h 0, h 1, h 2, h 3, h 4, h 5) in
+    let b1 : (m : ℕ) → flipped (six g / 2) m ≡ flipped (g 1) m = λ m. omega (arith, h 0, h 1, h 2, h 3, h 4, h 5) in
+    let b2 : (m : ℕ) → flipped (six g / 4) m ≡ flipped (g 2) m = λ m. omega (arith, h 0, h 1, h 2, h 3, h 4, h 5) in
+    let b3 : (m : ℕ) → flipped (six g / 8) m ≡ flipped (g 3) m = λ m. omega (arith, h 0, h 1, h 2, h 3, h 4, h 5) in
+    let b4 : (m : ℕ) → flipped (six g / 16) m ≡ flipped (g 4) m = λ m. omega (arith, h 0, h 1, h 2, h 3, h 4, h 5) in
+    let b5 : (m : ℕ) → flipped (six g / 32) m ≡ flipped (g 5) m = λ m. omega (arith, h 0, h 1, h 2, h 3, h 4, h 5) in
+    λ i.
+    b0 (passed n (rowOf (a .toggles) 0)) i + b1 (passed n (rowOf (a .toggles) 1)) i * 2 + b2 (passed n (rowOf (a .toggles) 2)) i * 4
+    + b3 (passed n (rowOf (a .toggles) 3)) i * 8
+    + b4 (passed n (rowOf (a .toggles) 4)) i * 16
+    + b5 (passed n (rowOf (a .toggles) 5)) i * 32
+
+six-ext : (f g : ℕ → ℕ) → ((k : ℕ) → f k ≡ g k) → six f ≡ six g
+six-ext f g h = λ i. six (λ k. h k i)
+
+-- a level flipped i times as often as n flips it: an even i leaves it
+even-times : (i n x : ℕ) → i % 2 ≡ 0 → flipped x (i * n) ≡ x % 2
+even-times i n x e =
+    let whole : i / 2 * 2 + i % 2 ≡ i = div-add-mod' i 2 in
+    let two : i ≡ i / 2 * 2 = omega arith in
+    let twos : i * n ≡ i / 2 * n * 2 = ap (λ j. j * n) two ∙ mul-assoc (i / 2) 2 n ∙ ap (λ j. i / 2 * j) (mul-comm 2 n) ∙ sym (mul-assoc (i / 2) n 2) in
+    omega arith
+
+odd-times : (i n x : ℕ) → i % 2 ≡ 1 → flipped x (i * n) ≡ flipped x n
+odd-times i n x e =
+    let whole : i / 2 * 2 + i % 2 ≡ i = div-add-mod' i 2 in
+    let two : i ≡ i / 2 * 2 + 1 = omega arith in
+    let twos : i * n ≡ i / 2 * n * 2 + 1 * n =
+    ap (λ j. j * n) two ∙ add-mul (i / 2 * 2) 1 n
+    ∙ ap (λ j. j + 1 * n) (mul-assoc (i / 2) 2 n ∙ ap (λ j. i / 2 * j) (mul-comm 2 n) ∙ sym (mul-assoc (i / 2) n 2)) in
+    omega arith
+
+twice : (x m n : ℕ) → flipped (flipped x m) n ≡ flipped x (m + n)
+twice x m n = omega arith
+
+level-bit : (x : ℕ) → x < 2 → x % 2 ≡ x
+level-bit x h = omega arith
+
+start-small : (a : Pattern) (k : ℕ) → startLevel a k < 2
+start-small a k = omega arith
+
+module _ (a : Pattern) (small : Small (a .toggles)) where
+  -- the levels at count 0 are the start levels, and at the count `length` every used toggle is passed
+  start-bits : sixAt (a .levels) (rowsOf (a .toggles)) 0 ≡ six (λ k. startLevel a k)
+  start-bits = six-out a small (λ y. y) 0 (λ y row. y) (λ x k. still x (rowOf (a .toggles) k))
+
+  turned-bits : sixAt (a .levels) (rowsOf (a .toggles)) (a .length) ≡ six (λ k. flipped (startLevel a k) (runToggles a k))
+  turned-bits =
+      six-out a small (λ y. y) (a .length) (λ y row. flipped y (usedToggles (used Plain (a .length)) row)) (λ x k. low-bit x (runToggles a k))
+
+  -- `begins i` are the levels g i that repetition i begins with, and after the run those of the one that would come next
+  module _ (start r : ℕ) (begins : ℕ → ℕ) (g : ℕ → ℕ → ℕ) (bits : (i k : ℕ) → g i k < 2) (same : (i : ℕ) → begins i ≡ six (g i)) where
+    run-at : (i n : ℕ) → sixAt (begins i) (rowsOf (a .toggles)) n ≡ six (λ k. flipped (g i k) (passed n (rowOf (a .toggles) k)))
+    run-at i n = ap (λ b. sixAt b (rowsOf (a .toggles)) n) (same i) ∙ bits-out a n (g i) (bits i)
+
+    run-still : (i : ℕ) → sixAt (begins i) (rowsOf (a .toggles)) 0 ≡ six (g i)
+    run-still i = run-at i 0 ∙ six-ext _ _ (λ k. still (g i k) (rowOf (a .toggles) k) ∙ level-bit (g i k) (bits i k))
+
+    run-out : (q : ℕ)
+        → sixAt (begins (runTurn start (a .length) r q)) (rowsOf (a .toggles)) (runCount start (a .length) r q)
+        ≡ six (λ k. cond (ltb q start) (g 0 k)
+        (cond (ltb (q - start) (r * a .length)) (flipped (g ((q - start) / a .length) k) (runFlips a k ((q - start) % a .length))) (g r k)))
+    run-out q =
+        by-cases (ltb q start)
+        (λ e. rw e (run-still 0))
+        (λ e.
+        by-cases (ltb (q - start) (r * a .length))
+        (λ h.
+        let pos = run-has-length r (a .length) (q - start) (ltb-true (q - start) (r * a .length) h) in
+        let u : ℕ = (q - start) % a .length in
+        rw (e, h)
+        (run-at ((q - start) / a .length) (u + 1)
+        ∙ six-ext _ _
+        (λ k.
+        ap (flipped (g ((q - start) / a .length) k))
+        (counted (λ y. y) (used Plain (a .length)) (u + 1) 1 u a k small (λ y l. run-toggle (a .length) u y (mod-lt (q - start) pos))))))
+        (λ h. rw (e, h) (run-still r)))
+
+  -- version 1: every repetition begins with the start levels
+  pub afresh-word : (start r L q : ℕ) → L ≡ sixAt (a .levels) (rowsOf (a .toggles)) 0
+      → sixAt (cond (eqb (runTurn start (a .length) r q % 2) 0) L L) (rowsOf (a .toggles)) (runCount start (a .length) r q)
+      ≡ six (λ k. runLevel a start r k q)
+  afresh-word start r L q e =
+      run-out start r (λ i. cond (eqb (i % 2) 0) L L) (λ i k. startLevel a k) (λ i k. start-small a k)
+      (λ i. cond-case (λ x. x ≡ six (λ k. startLevel a k)) (eqb (i % 2) 0) L L (λ h. e ∙ start-bits) (λ h. e ∙ start-bits)) q
+
+  -- the mended rule: one of odd number begins with the start levels flipped by every used toggle
+  pub carried-word : (start r L T q : ℕ) → L ≡ sixAt (a .levels) (rowsOf (a .toggles)) 0 → T ≡ sixAt (a .levels) (rowsOf (a .toggles)) (a .length)
+      → sixAt (cond (eqb (runTurn start (a .length) r q % 2) 0) L T) (rowsOf (a .toggles)) (runCount start (a .length) r q)
+      ≡ six (λ k. carriedLevel a start r k q)
+  carried-word start r L T q el et =
+      run-out start r (λ i. cond (eqb (i % 2) 0) L T) (λ i k. flipped (startLevel a k) (i * runToggles a k)) (λ i k. omega arith) begins q
+      ∙ six-ext _ _ (λ k. one k)
+    where
+      begins : (i : ℕ) → cond (eqb (i % 2) 0) L T ≡ six (λ k. flipped (startLevel a k) (i * runToggles a k))
+      begins i =
+          cond-case (λ x. x ≡ six (λ k. flipped (startLevel a k) (i * runToggles a k))) (eqb (i % 2) 0) L T
+          (λ e.
+          el ∙ start-bits
+          ∙ six-ext _ _
+          (λ k. sym (even-times i (runToggles a k) (startLevel a k) (eqb-true (i % 2) 0 e) ∙ level-bit (startLevel a k) (start-small a k))))
+          (λ e.
+          let ne = eqb-false (i % 2) 0 e in
+          let odd : i % 2 ≡ 1 = omega arith in
+          et ∙ turned-bits ∙ six-ext _ _ (λ k. sym (odd-times i (runToggles a k) (startLevel a k) odd)))
+
+      one : (k : ℕ)
+          → cond (ltb q start) (flipped (startLevel a k) (0 * runToggles a k))
+          (cond (ltb (q - start) (r * a .length))
+          (flipped (flipped (startLevel a k) ((q - start) / a .length * runToggles a k)) (runFlips a k ((q - start) % a .length)))
+          (flipped (startLevel a k) (r * runToggles a k)))
+          ≡ carriedLevel a start r k q
+      one k i =
+          cond (ltb q start)
+          ((even-times 0 (runToggles a k) (startLevel a k) refl ∙ level-bit (startLevel a k) (start-small a k)) i)
+          (cond (ltb (q - start) (r * a .length))
+          (twice (startLevel a k) ((q - start) / a .length * runToggles a k) (runFlips a k ((q - start) % a .length)) i)
+          (flipped (startLevel a k) (r * runToggles a k)))
 
 -- ---- gates, SUBCK and shutters: a line's pixel held to 16 bits, and edges
 
@@ -366,12 +481,44 @@ eight-stays t p last q stays from to =
     + at 6 (omega arith) i * 64
     + at 7 (omega arith) i * 128
 
--- the levels of the pattern that acts, at its count, are those before masks
-pub side-shows : (r : Ready) (p n : ℕ) (second : Bool) → second ≡ secondBegun (r .second) p → n ≡ countAt r second p
-    → sideAt r second n ≡ unmaskedAt r p
-unfolding sideAt unmaskedAt firstAt secondAt
-side-shows r p n true begun e = ap (sideAt r true) e ∙ rw (sym begun)
-side-shows r p n false begun e = ap (sideAt r false) e ∙ rw (sym begun)
+-- the levels of what acts, at its count, are those before masks
+pub side-shows : (r : Ready) (p n side : ℕ) → side ≡ sideOf r p → n ≡ countAt r side p → sideAt r side n ≡ unmaskedAt r p
+unfolding sideOf sideAt unmaskedAt firstAt secondAt
+side-shows r p n side es en =
+    ap (sideAt r side) en
+    ∙ ap (λ s. sideAt r s (countAt r s p)) es
+    ∙ by-cases (secondBegun (r .second) p)
+    (λ e. rw e)
+    (λ e.
+    let turn : ℕ = firstTurn (r .first) (r .first .origin + p) % 2 in
+    let first : eqb turn 2 ≡ false = ne-eqb turn 2 (λ z. omega arith) in
+    rw (e, first))
+
+-- the levels of each thing that acts
+module _ (r : Ready) (side n : ℕ) where
+  pub side-two : side ≡ 2 → sixAt (r .second .levels) (rowsOf (r .second .keys)) n ≡ sideAt r side n
+  unfolding sideAt
+  side-two e = rw (eq-eqb side 2 e)
+
+  pub side-even : (side ≡ 2 → ⊥) → side ≡ 0 → sixAt (r .first .levels) (rowsOf (r .first .keys)) n ≡ sideAt r side n
+  unfolding sideAt
+  side-even e z = rw (ne-eqb side 2 e, eq-eqb side 0 z)
+
+  pub side-odd : (side ≡ 2 → ⊥) → (side ≡ 0 → ⊥) → sixAt (r .first .turned) (rowsOf (r .first .keys)) n ≡ sideAt r side n
+  unfolding sideAt
+  side-odd e z = rw (ne-eqb side 2 e, ne-eqb side 0 z)
+
+-- levels kept of one function are kept of another with the same levels
+pub kept-as : {bound n : ℕ} {f g : ℕ → ℕ} {k : Kept} → ((m : ℕ) → f m ≡ g m) → Keeps bound f k × (k .levels ≡ f n) → Keeps bound g k × (k .levels ≡ g n)
+kept-as {n = n} h w = (record { small = w .0 .small; same = λ m a b. sym (h m) ∙ w .0 .same m a b }, w .1 ∙ h n)
+
+-- where the second pattern acts it has begun
+pub side-second : (r : Ready) (p : ℕ) → sideOf r p ≡ 2 → r .second .length ≤ p
+unfolding sideOf
+side-second r p e =
+    by-cases (secondBegun (r .second) p)
+    (λ b. leb-true _ _ (and-right (r .second .acts) _ b))
+    (λ b. let w : firstTurn (r .first) (r .first .origin + p) % 2 ≡ 2 = rw b at e in absurd (omega arith))
 
 -- ---- the word
 
@@ -382,13 +529,13 @@ six-cond false f g = refl
 
 -- V1 to V6, by what the two patterns made ready say
 pub unmasked-word : (l : Line) (q : ℕ) {acts : Bool} {length second first : ℕ} → acts ≡ l .«second_acts» → length ≡ l .second .length
-    → second ≡ secondWord (l .second) q → first ≡ firstWord (l .mode) (l .pattern) (l .start) (l .origin) (l .repetitions) q
+    → second ≡ secondWord (l .second) q → first ≡ firstWord (l .run) (l .pattern) (l .start) (l .repetitions) (l .origin + q)
     → cond (acts && leb length q) second first ≡ six (λ k. unmasked l k q)
 unfolding firstWord secondWord
 unmasked-word l q acts length second first =
     (λ i. cond (acts i && leb (length i) q) (second i) (first i))
     ∙ six-cond (l .«second_acts» && leb (l .second .length) q) (λ k. secondLevel (l .second) k q)
-    (λ k. firstLevel (l .mode) (l .pattern) (l .start) (l .origin) (l .repetitions) k q)
+    (λ k. firstLevel (l .run) (l .pattern) (l .start) (l .repetitions) k (l .origin + q))
 
 -- the two parts of the word
 pub two-parts : (l : Line) (p : ℕ)

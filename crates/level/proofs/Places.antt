@@ -12,6 +12,7 @@ use Rattle.profile.specs.declared.Tables.{Tables}
 use Rattle.profile.specs.declared.Field.{Field}
 use Rattle.profile.specs.declared.Profile.{Profile}
 use Rattle.profile.specs.declared.Verdict.{Verdict}
+use Rattle.profile.specs.declared.Ruleset.{Ruleset}
 use Rattle.level.specs.declared.Line.{Line}
 use Rattle.level.specs.declared.LevelAnswer.{LevelAnswer}
 use Rattle.level.specs.declared.Located.{Located}
@@ -33,18 +34,18 @@ passes {v} e n = ap accepts (sym e) ∙ eq-eqb (v .number) 0 n
 abbrev pub levelled : Verdict → ℕ → LevelAnswer
 levelled v word = record { verdict = v; word = word }
 
-module _ (p : Profile) (line pixel : ℕ) {v : Verdict} where
-  pub level-refused : v ≡ checkProfile p → accepts (checkProfile p) ≡ false → noLevel v ≡ levelAnswer p line pixel
+module _ (rules : Ruleset) (p : Profile) (line pixel : ℕ) {v : Verdict} where
+  pub level-refused : v ≡ checkProfile rules p → accepts (checkProfile rules p) ≡ false → noLevel v ≡ levelAnswer rules p line pixel
   unfolding levelAnswer
   level-refused f e = rw (f, e)
 
-  pub level-nowhere : v ≡ refused 19 0 → accepts (checkProfile p) ≡ true → hasPixel (p .tables) (p .field) line pixel ≡ false
-      → noLevel v ≡ levelAnswer p line pixel
+  pub level-nowhere : v ≡ refused 19 0 → accepts (checkProfile rules p) ≡ true → hasPixel (p .tables) (p .field) line pixel ≡ false
+      → noLevel v ≡ levelAnswer rules p line pixel
   unfolding levelAnswer
   level-nowhere f e h = rw (f, e, h)
 
-  pub level-there : {x : Line} {word : ℕ} → v ≡ accepted → x ≡ lineOf (p .tables) (p .field) line → word ≡ wordOf x pixel
-      → accepts (checkProfile p) ≡ true → hasPixel (p .tables) (p .field) line pixel ≡ true → levelled v word ≡ levelAnswer p line pixel
+  pub level-there : {x : Line} {word : ℕ} → v ≡ accepted → x ≡ lineOf (rules .version) (p .tables) (p .field) line → word ≡ wordOf x pixel
+      → accepts (checkProfile rules p) ≡ true → hasPixel (p .tables) (p .field) line pixel ≡ true → levelled v word ≡ levelAnswer rules p line pixel
   unfolding levelAnswer
   level-there f l w e h = rw (f, w, l, e, h)
 
@@ -64,11 +65,11 @@ module _ (t : Tables) (f : Field) where
   pub placed-nowhere : (n : ℕ) → pixelCount t f ≤ n → noPlace (refused 19 0) ≡ placeAnswer t f n
   placed-nowhere n h = rw (le-ltb n (pixelCount t f) h)
 
-module _ (p : Profile) (n : ℕ) where
-  pub locate-refused : {v : Verdict} → v ≡ checkProfile p → accepts (checkProfile p) ≡ false → noPlace v ≡ locateAnswer p n
+module _ (rules : Ruleset) (p : Profile) (n : ℕ) where
+  pub locate-refused : {v : Verdict} → v ≡ checkProfile rules p → accepts (checkProfile rules p) ≡ false → noPlace v ≡ locateAnswer rules p n
   unfolding locateAnswer
   locate-refused f e = rw (f, e)
 
-  pub locate-asked : {l : Located} → l ≡ placeAnswer (p .tables) (p .field) n → accepts (checkProfile p) ≡ true → l ≡ locateAnswer p n
+  pub locate-asked : {l : Located} → l ≡ placeAnswer (p .tables) (p .field) n → accepts (checkProfile rules p) ≡ true → l ≡ locateAnswer rules p n
   unfolding locateAnswer
   locate-asked f e = rw (f, e)

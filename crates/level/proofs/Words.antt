@@ -52,17 +52,18 @@ use Rattle.profile.specs.Geometry.{
   pixelCount,
   hasPixel,
 }
-use Rattle.profile.specs.declared.Mode.{Mode}
-use Rattle.profile.specs.declared.Mode.the-variants.{Plain, Sweep, Multiplier}
 use Rattle.profile.specs.declared.Pattern.{Pattern}
 use Rattle.profile.specs.declared.Tables.{Tables}
 use Rattle.profile.specs.declared.Field.{Field}
+use Rattle.level.specs.declared.Run.{Run}
+use Rattle.level.specs.declared.Run.the-variants.{Afresh, Carried, Multiplied}
 use Rattle.level.specs.declared.Pulse.{Pulse}
 use Rattle.level.specs.declared.Span.{Span}
 use Rattle.level.specs.declared.Line.{Line}
 use Rattle.level.specs.Line.{lineWith, lineIn, lineOf}
 use Rattle.level.specs.Word.{
   runLevel,
+  carriedLevel,
   timesLevel,
   firstLevel,
   unmasked,
@@ -91,18 +92,23 @@ run-small a start r k q =
     cond-case (λ n. n < 2) (ltb q start) _ _ (λ e. mod-small _)
     (λ e. cond-case (λ n. n < 2) (ltb (q - start) (r * a .length)) _ _ (λ u. mod-small _) (λ u. mod-small _))
 
+pub carried-small : (a : Pattern) (start r k q : ℕ) → carriedLevel a start r k q < 2
+carried-small a start r k q =
+    cond-case (λ n. n < 2) (ltb q start) _ _ (λ e. mod-small _)
+    (λ e. cond-case (λ n. n < 2) (ltb (q - start) (r * a .length)) _ _ (λ u. mod-small _) (λ u. mod-small _))
+
 pub times-small : (a : Pattern) (start k q : ℕ) → timesLevel a start k q < 2
 times-small a start k q = cond-case (λ n. n < 2) (ltb q start) _ _ (λ e. mod-small _) (λ e. mod-small _)
 
-pub first-small : (m : Mode) (a : Pattern) (start origin r k p : ℕ) → firstLevel m a start origin r k p < 2
-first-small Plain a start origin r k p = run-small a start r k p
-first-small Sweep a start origin r k p = run-small a start r k (origin + p)
-first-small Multiplier a start origin r k p = times-small a start k (origin + p)
+pub first-small : (run : Run) (a : Pattern) (start r k q : ℕ) → firstLevel run a start r k q < 2
+first-small Afresh a start r k q = run-small a start r k q
+first-small Carried a start r k q = carried-small a start r k q
+first-small Multiplied a start r k q = times-small a start k q
 
 pub unmasked-small : (l : Line) (k p : ℕ) → unmasked l k p < 2
 unmasked-small l k p =
     cond-case (λ n. n < 2) (l .«second_acts» && leb (l .second .length) p) _ _ (λ e. mod-small _)
-    (λ e. first-small (l .mode) (l .pattern) (l .start) (l .origin) (l .repetitions) k p)
+    (λ e. first-small (l .run) (l .pattern) (l .start) (l .repetitions) k (l .origin + p))
 
 pub v-level-small : (l : Line) (k p : ℕ) → vLevel l k p < 2
 v-level-small l k p = unmasked-small l k (shownAt (l .mask1) (l .mask2) p)
@@ -155,47 +161,26 @@ or-none false = refl
 
 -- ---- the line of a number that the field has
 
-module _ (t : Tables) (f : Field) (line : ℕ) where
-  pub line-of : line < f .lines → lineOf t f line ≡ lineIn t f line (regionOf f line)
+module _ (version : ℕ) (t : Tables) (f : Field) (line : ℕ) where
+  pub line-of : line < f .lines → lineOf version t f line ≡ lineIn version t f line (regionOf f line)
   unfolding lineOf
   line-of h = rw (lt-ltb line (f .lines) h)
 
-  pub line-of-length : line < f .lines → lineOf t f line .length ≡ lineLength t f line
+  pub line-of-length : line < f .lines → lineOf version t f line .length ≡ lineLength t f line
   unfolding lineWith lineLength
   line-of-length h = ap (λ (l : Line). l .length) (line-of h)
 
   -- in region i
   module _ (o : Ordered f) (i : ℕ) (h : i < regionCount f) (l : firstLine f i ≤ line) (u : line < endLine f i) where
-    pub line-of-region : lineOf t f line ≡ lineIn t f line i
-    line-of-region = line-of (omega (arith, end-most f o i)) ∙ ap (lineIn t f line) (region-is f o i line h l u)
+    pub line-of-region : lineOf version t f line ≡ lineIn version t f line i
+    line-of-region = line-of (omega (arith, end-most f o i)) ∙ ap (lineIn version t f line) (region-is f o i line h l u)
 
-    pub words-of-region : wordsOnLine t f line ≡ lineWords (lineIn t f line i) (lengthIn t f i line)
+    pub words-of-region : wordsOnLine version t f line ≡ lineWords (lineIn version t f line i) (lengthIn t f i line)
     words-of-region = rw (line-of-region, line-length-in f o t i line h l u)
 
--- ---- the words of a field, for every field
+-- ---- a field pixel, and its line and pixel: of two lines that start at one place the later has it, for the earlier has no pixel
 
 module _ (t : Tables) (f : Field) where
-  pub lines-words-length : (n : ℕ) → length (chunks n (wordsOnLine t f)) ≡ pixelsBefore t f n
-  unfolding pixelsBefore
-  lines-words-length n =
-      length-chunks-sum n (wordsOnLine t f)
-      ∙ sum-ext (λ line. length (wordsOnLine t f line)) (lineLength t f) 0 n (λ line a b. line-words-length (lineOf t f line) (lineLength t f line))
-
-  pub field-words-length : length (fieldWords t f) ≡ pixelCount t f
-  unfolding fieldWords
-  field-words-length = lines-words-length (f .lines) ∙ before-all t f
-
-  pub field-word-at : (line pixel : ℕ) → line < f .lines → pixel < lineLength t f line
-      → getD (fieldWords t f) (placeOf t f line pixel) 0 ≡ wordOf (lineOf t f line) pixel
-  unfolding fieldWords
-  field-word-at line pixel h l =
-      let long = line-words-length (lineOf t f line) (lineLength t f line) in
-      ap (λ (n : ℕ). getD (chunks (f .lines) (wordsOnLine t f)) (n + pixel) 0) (sym (lines-words-length line))
-      ∙ getD-chunks (f .lines) (wordsOnLine t f) 0 line pixel h (omega arith)
-      ∙ line-words-at (lineOf t f line) (lineLength t f line) pixel l
-
-  -- ---- a field pixel, and its line and pixel: of two lines that start at one place the later has it, for the earlier has no pixel
-
   pub place-below : (line pixel : ℕ) → hasPixel t f line pixel ≡ true → placeOf t f line pixel < pixelCount t f
   place-below line pixel e =
       omega (arith, has-pixel t f line pixel e, before-later t f line (f .lines) (has-line t f line pixel e), before-all t f)
@@ -239,34 +224,57 @@ module _ (t : Tables) (f : Field) where
     pub place-at : placeOf t f (lineAt t f n) (pixelAt t f n) ≡ n
     place-at = omega (arith, line-at-starts)
 
-    pub field-word : getD (fieldWords t f) n 0 ≡ wordOf (lineOf t f (lineAt t f n)) (pixelAt t f n)
+-- ---- the words of a field, for every version and every field
+
+module _ (version : ℕ) (t : Tables) (f : Field) where
+  pub lines-words-length : (n : ℕ) → length (chunks n (wordsOnLine version t f)) ≡ pixelsBefore t f n
+  unfolding pixelsBefore
+  lines-words-length n =
+      length-chunks-sum n (wordsOnLine version t f)
+      ∙ sum-ext (λ line. length (wordsOnLine version t f line)) (lineLength t f) 0 n (λ line a b. line-words-length (lineOf version t f line) (lineLength t f line))
+
+  pub field-words-length : length (fieldWords version t f) ≡ pixelCount t f
+  unfolding fieldWords
+  field-words-length = lines-words-length (f .lines) ∙ before-all t f
+
+  pub field-word-at : (line pixel : ℕ) → line < f .lines → pixel < lineLength t f line
+      → getD (fieldWords version t f) (placeOf t f line pixel) 0 ≡ wordOf (lineOf version t f line) pixel
+  unfolding fieldWords
+  field-word-at line pixel h l =
+      let long = line-words-length (lineOf version t f line) (lineLength t f line) in
+      ap (λ (n : ℕ). getD (chunks (f .lines) (wordsOnLine version t f)) (n + pixel) 0) (sym (lines-words-length line))
+      ∙ getD-chunks (f .lines) (wordsOnLine version t f) 0 line pixel h (omega arith)
+      ∙ line-words-at (lineOf version t f line) (lineLength t f line) pixel l
+
+  module _ (n : ℕ) (h : n < pixelCount t f) where
+    pub field-word : getD (fieldWords version t f) n 0 ≡ wordOf (lineOf version t f (lineAt t f n)) (pixelAt t f n)
     field-word =
-        ap (λ (k : ℕ). getD (fieldWords t f) k 0) (sym place-at)
-        ∙ field-word-at (lineAt t f n) (pixelAt t f n) line-at-below pixel-at-below
+        ap (λ (k : ℕ). getD (fieldWords version t f) k 0) (sym (place-at t f n h))
+        ∙ field-word-at (lineAt t f n) (pixelAt t f n) (line-at-below t f n h) (pixel-at-below t f n h)
 
   -- past the end there is the default, 0
-  pub field-words-small : (n : ℕ) → getD (fieldWords t f) n 0 < 2 ^ 14
+  pub field-words-small : (n : ℕ) → getD (fieldWords version t f) n 0 < 2 ^ 14
   field-words-small n =
       by-cases (ltb n (pixelCount t f))
-      (λ e. rw (field-word n (ltb-true n (pixelCount t f) e)) (word-small (lineOf t f (lineAt t f n)) (pixelAt t f n)))
+      (λ e. rw (field-word n (ltb-true n (pixelCount t f) e)) (word-small (lineOf version t f (lineAt t f n)) (pixelAt t f n)))
       (λ e.
       let past = ltb-false n (pixelCount t f) e in
-      rw (List·getD-eq-default (fieldWords t f) 0 {n = n} (omega (arith, field-words-length))) (omega arith))
+      rw (List·getD-eq-default (fieldWords version t f) 0 {n = n} (omega (arith, field-words-length))) (omega arith))
 
   -- ---- the words region by region
 
   module _ (o : Ordered f) where
-    pub region-words : fieldWords t f
-        ≡ chunks (regionCount f) (λ i. chunks (endLine f i - firstLine f i) (λ k. wordsOnLine t f (firstLine f i + k)))
+    pub region-words : fieldWords version t f
+        ≡ chunks (regionCount f) (λ i. chunks (endLine f i - firstLine f i) (λ k. wordsOnLine version t f (firstLine f i + k)))
     unfolding fieldWords
-    region-words = sym (regions-lines f o (wordsOnLine t f))
+    region-words = sym (regions-lines f o (wordsOnLine version t f))
 
     pub region-words-length : (i : ℕ) → i < regionCount f
-        → length (chunks (endLine f i - firstLine f i) (λ k. wordsOnLine t f (firstLine f i + k))) ≡ regionSize t f i
+        → length (chunks (endLine f i - firstLine f i) (λ k. wordsOnLine version t f (firstLine f i + k))) ≡ regionSize t f i
     region-words-length i h =
         let n : ℕ = endLine f i - firstLine f i in
-        length-chunks-sum n (λ k. wordsOnLine t f (firstLine f i + k))
-        ∙ sum-ext (λ k. length (wordsOnLine t f (firstLine f i + k))) (λ k. lineLength t f (firstLine f i + k)) 0 n
-        (λ k a b. line-words-length (lineOf t f (firstLine f i + k)) (lineLength t f (firstLine f i + k)))
+        length-chunks-sum n (λ k. wordsOnLine version t f (firstLine f i + k))
+        ∙ sum-ext (λ k. length (wordsOnLine version t f (firstLine f i + k))) (λ k. lineLength t f (firstLine f i + k)) 0 n
+        (λ k a b. line-words-length (lineOf version t f (firstLine f i + k)) (lineLength t f (firstLine f i + k)))
         ∙ sym (sum-shift (lineLength t f) (firstLine f i) n)
         ∙ sym (region-pixels f o t i (endLine f i) h (omega arith))

@@ -13,6 +13,10 @@ use Rattle.level.specs.Word.{bit, flipped}
 abbrev pub runCount : ℕ → ℕ → ℕ → ℕ → ℕ
 runCount start length r q = cond (ltb q start) 0 (cond (ltb (q - start) (r * length)) ((q - start) % length + 1) 0)
 
+-- the repetition that a pixel is in; 0 before the start, and after the run the one that would come next
+abbrev pub runTurn : ℕ → ℕ → ℕ → ℕ → ℕ
+runTurn start length r q = cond (ltb q start) 0 (cond (ltb (q - start) (r * length)) ((q - start) / length) r)
+
 -- multiplier and second pattern: 4095 is unused, so its key is the highest number, and the toggles above it move down by one
 abbrev pub keyOf : ℕ → ℕ
 keyOf x = cond (eqb x 4095) 65535 (cond (ltb x 4095) x (x - 1))

@@ -1,4 +1,4 @@
--- The words of a field: "Pixels run line by line".
+-- The words of a field by a rule version: "Pixels run line by line".
 -- Assumes nothing.
 use Prim.Native.Nat.{ℕ}
 use mathlib.Core.List.{List, [], _∷_}
@@ -15,8 +15,8 @@ unfoldable pub lineWords : Line → ℕ → List ℕ
 lineWords l n = chunks n (λ p. wordOf l p ∷ [])
 
 -- the words of a line of a field
-abbrev pub wordsOnLine : Tables → Field → ℕ → List ℕ
-wordsOnLine t f line = lineWords (lineOf t f line) (lineLength t f line)
+abbrev pub wordsOnLine : ℕ → Tables → Field → ℕ → List ℕ
+wordsOnLine version t f line = lineWords (lineOf version t f line) (lineLength t f line)
 
-unfoldable pub fieldWords : Tables → Field → List ℕ
-fieldWords t f = chunks (f .lines) (wordsOnLine t f)
+unfoldable pub fieldWords : ℕ → Tables → Field → List ℕ
+fieldWords version t f = chunks (f .lines) (wordsOnLine version t f)

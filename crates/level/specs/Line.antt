@@ -1,4 +1,5 @@
--- Where everything acts on one line of a field, worked out from the tables, the field and the line's number.
+-- Where everything acts on one line of a field, worked out from the rule version, the tables, the field and the line's number. Here alone a version
+-- or a mode decides: the word of a line (specs/Word.antt) looks at neither.
 -- Assumes nothing.
 use Prim.Native.Nat.{ℕ, _+_}
 use mathlib.Core.List.{List, [], _∷_}
@@ -9,7 +10,8 @@ use Rattle.profile.specs.Values.{emptyGate, emptyShutter}
 use Rattle.profile.specs.Patterns.{emptyPattern, patternOf}
 use Rattle.profile.specs.Geometry.{regionAt, regionOf, sequenceOf, lengthIn, regionPixels, repetitions, gateLines}
 use Rattle.profile.specs.Rules.{pairOn, hasSecond, secondOf, gateOn}
-use Rattle.profile.specs.declared.Mode.the-variants.{Plain}
+use Rattle.profile.specs.declared.Mode.{Mode}
+use Rattle.profile.specs.declared.Mode.the-variants.{Plain, Sweep, Multiplier}
 use Rattle.profile.specs.declared.Pattern.{Pattern}
 use Rattle.profile.specs.declared.Region.{Region}
 use Rattle.profile.specs.declared.Sequence.{Sequence}
@@ -18,6 +20,8 @@ use Rattle.profile.specs.declared.Subck.{Subck}
 use Rattle.profile.specs.declared.Shutter.{Shutter}
 use Rattle.profile.specs.declared.Tables.{Tables}
 use Rattle.profile.specs.declared.Field.{Field}
+use Rattle.level.specs.declared.Run.{Run}
+use Rattle.level.specs.declared.Run.the-variants.{Afresh, Carried, Multiplied}
 use Rattle.level.specs.declared.Pulse.{Pulse}
 use Rattle.level.specs.declared.Span.{Span}
 use Rattle.level.specs.declared.Line.{Line}
@@ -85,15 +89,31 @@ shutterHere s line length =
     (record { level = s .active; from = 0; to = 0 }))
     absentSpan
 
+-- how V1 to V6 run, plain and sweep: by version 1 "each repetition starts afresh"; from 2 on one "takes over the level the last one ended with"
+abbrev pub repeated : ℕ → Run
+repeated version = cond (ltb version 2) Afresh Carried
+
+abbrev pub runOf : ℕ → Mode → Run
+runOf version Plain = repeated version
+runOf version Sweep = repeated version
+runOf version Multiplier = Multiplied
+
+-- the pixels before the line since the run's start level was set: "Only the start of a line (plain) or of the region (sweep)" sets it, and a
+-- multiplier counts from the region's first pixel too
+abbrev pub originOf : Mode → ℕ → ℕ
+originOf Plain before = 0
+originOf Sweep before = before
+originOf Multiplier before = before
+
 -- the line of region r, whose number is i, with sequence s and that sequence's pattern a
-unfoldable pub lineWith : Tables → Field → ℕ → ℕ → Region → Sequence → Pattern → Line
-lineWith t f line i r s a =
+unfoldable pub lineWith : ℕ → Tables → Field → ℕ → ℕ → Region → Sequence → Pattern → Line
+lineWith version t f line i r s a =
     record {
       length = lengthIn t f i line;
-      mode = r .mode;
+      run = runOf version (r .mode);
       pattern = a;
       start = s .start;
-      origin = regionPixels t f i line;
+      origin = originOf (r .mode) (regionPixels t f i line);
       repetitions = repetitions s line;
       mask1 = record { on = pairOn (s .mask) 1; freeze = a .freeze1; resume = a .resume1 };
       mask2 = record { on = pairOn (s .mask) 2; freeze = a .freeze2; resume = a .resume2 };
@@ -106,9 +126,9 @@ lineWith t f line i r s a =
     }
 
 -- the line in its region i
-abbrev pub lineIn : Tables → Field → ℕ → ℕ → Line
-lineIn t f line i =
-    lineWith t f line i (regionAt f i) (sequenceOf t (regionAt f i .sequence))
+abbrev pub lineIn : ℕ → Tables → Field → ℕ → ℕ → Line
+lineIn version t f line i =
+    lineWith version t f line i (regionAt f i) (sequenceOf t (regionAt f i .sequence))
     (patternOf (t .registers) (sequenceOf t (regionAt f i .sequence) .pattern))
 
 -- a line that the field does not have: nothing acts, and each output shows what it shows where its item is absent
@@ -116,7 +136,7 @@ unfoldable pub noLine : Line
 noLine =
     record {
       length = 0;
-      mode = Plain;
+      run = Afresh;
       pattern = emptyPattern;
       start = 0;
       origin = 0;
@@ -131,5 +151,5 @@ noLine =
       strobe = absentSpan;
     }
 
-unfoldable pub lineOf : Tables → Field → ℕ → Line
-lineOf t f line = cond (ltb line (f .lines)) (lineIn t f line (regionOf f line)) noLine
+unfoldable pub lineOf : ℕ → Tables → Field → ℕ → Line
+lineOf version t f line = cond (ltb line (f .lines)) (lineIn version t f line (regionOf f line)) noLine

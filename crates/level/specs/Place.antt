@@ -11,6 +11,7 @@ use Rattle.profile.specs.declared.Tables.{Tables}
 use Rattle.profile.specs.declared.Field.{Field}
 use Rattle.profile.specs.declared.Profile.{Profile}
 use Rattle.profile.specs.declared.Verdict.{Verdict}
+use Rattle.profile.specs.declared.Ruleset.{Ruleset}
 use Rattle.level.specs.declared.LevelAnswer.{LevelAnswer}
 use Rattle.level.specs.declared.Located.{Located}
 use Rattle.level.specs.Line.{lineOf}
@@ -21,14 +22,14 @@ abbrev pub noLevel : Verdict → LevelAnswer
 noLevel v = record { verdict = v; word = 0 }
 
 -- the word at a line and pixel; 19 where the field has no such pixel
-abbrev pub wordAnswer : Tables → Field → ℕ → ℕ → LevelAnswer
-wordAnswer t f line pixel =
-    cond (hasPixel t f line pixel) (record { verdict = accepted; word = wordOf (lineOf t f line) pixel }) (noLevel (refused 19 0))
+abbrev pub wordAnswer : ℕ → Tables → Field → ℕ → ℕ → LevelAnswer
+wordAnswer version t f line pixel =
+    cond (hasPixel t f line pixel) (record { verdict = accepted; word = wordOf (lineOf version t f line) pixel }) (noLevel (refused 19 0))
 
 -- the check's refusal first
-unfoldable pub levelAnswer : Profile → ℕ → ℕ → LevelAnswer
-levelAnswer p line pixel =
-    cond (accepts (checkProfile p)) (wordAnswer (p .tables) (p .field) line pixel) (noLevel (checkProfile p))
+unfoldable pub levelAnswer : Ruleset → Profile → ℕ → ℕ → LevelAnswer
+levelAnswer rules p line pixel =
+    cond (accepts (checkProfile rules p)) (wordAnswer (rules .version) (p .tables) (p .field) line pixel) (noLevel (checkProfile rules p))
 
 -- the place of a line's pixel among the field's pixels
 abbrev pub placeOf : Tables → Field → ℕ → ℕ → ℕ
@@ -54,5 +55,5 @@ placeAnswer t f n =
     cond (ltb n (pixelCount t f)) (record { verdict = accepted; line = lineAt t f n; pixel = pixelAt t f n }) (noPlace (refused 19 0))
 
 -- the check's refusal first
-unfoldable pub locateAnswer : Profile → ℕ → Located
-locateAnswer p n = cond (accepts (checkProfile p)) (placeAnswer (p .tables) (p .field) n) (noPlace (checkProfile p))
+unfoldable pub locateAnswer : Ruleset → Profile → ℕ → Located
+locateAnswer rules p n = cond (accepts (checkProfile rules p)) (placeAnswer (p .tables) (p .field) n) (noPlace (checkProfile rules p))

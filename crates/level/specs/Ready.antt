@@ -1,15 +1,15 @@
 -- Nobody has to believe this file: it says what a line made ready holds, what it says at a pixel, and what it is to keep levels from pixel to
 -- pixel. proofs/Counting.antt and the proofs of `outputs` show that Word's word comes out.
 -- Assumes nothing.
-use Prim.Native.Nat.{ℕ, _+_, _-_, _*_, _<_, _≤_}
+use Prim.Native.Nat.{ℕ, _+_, _-_, _*_, _%_, _<_, _≤_}
 use mathlib.Core.Path.{_≡_}
 use mathlib.Core.List.{List}
 use mathlib.Core.Bool.{Bool, cond, _&&_}
 use lib.ListN.{getD}
-use lib.Dec.{leb}
+use lib.Dec.{leb, eqb}
 use Rattle.profile.specs.Patterns.{rowsOf}
-use Rattle.profile.specs.declared.Mode.{Mode}
 use Rattle.profile.specs.declared.Pattern.{Pattern}
+use Rattle.level.specs.declared.Run.{Run}
 use Rattle.level.specs.declared.Pulse.{Pulse}
 use Rattle.level.specs.declared.Span.{Span}
 use Rattle.level.specs.declared.outputs.First.{First}
@@ -17,19 +17,13 @@ use Rattle.level.specs.declared.outputs.Second.{Second}
 use Rattle.level.specs.declared.outputs.Edges.{Edges}
 use Rattle.level.specs.declared.outputs.Ready.{Ready}
 use Rattle.level.specs.declared.outputs.Kept.{Kept}
-use Rattle.level.specs.Word.{bit, flipped, runLevel, timesLevel, firstLevel, secondLevel, shownAt, pulseLevel, spanLevel, six, gateWord}
-use Rattle.level.specs.Count.{runCount, timesCount, countTo, upTo, sixAt}
+use Rattle.level.specs.Word.{bit, flipped, firstLevel, secondLevel, shownAt, pulseLevel, spanLevel, six, gateWord}
+use Rattle.level.specs.Count.{runCount, runTurn, timesCount, countTo, upTo, sixAt}
 
 -- ---- the rules, six or eight outputs at a time
 
-unfoldable pub runWord : Pattern → ℕ → ℕ → ℕ → ℕ
-runWord a start r q = six (λ k. runLevel a start r k q)
-
-unfoldable pub timesWord : Pattern → ℕ → ℕ → ℕ
-timesWord a start q = six (λ k. timesLevel a start k q)
-
-unfoldable pub firstWord : Mode → Pattern → ℕ → ℕ → ℕ → ℕ → ℕ
-firstWord m a start origin r p = six (λ k. firstLevel m a start origin r k p)
+unfoldable pub firstWord : Run → Pattern → ℕ → ℕ → ℕ → ℕ
+firstWord run a start r q = six (λ k. firstLevel run a start r k q)
 
 unfoldable pub secondWord : Pattern → ℕ → ℕ
 secondWord a p = six (λ k. secondLevel a k p)
@@ -44,8 +38,15 @@ othersWord gates subck mshut strobe p =
 unfoldable pub firstCount : First → ℕ → ℕ
 firstCount f q = cond (f .times) (timesCount (f .start) (f .length) q) (runCount (f .start) (f .length) (f .repetitions) q)
 
+-- the repetition, and the levels that repetition i begins with
+unfoldable pub firstTurn : First → ℕ → ℕ
+firstTurn f q = cond (f .times) 0 (runTurn (f .start) (f .length) (f .repetitions) q)
+
+abbrev pub beginsWith : First → ℕ → ℕ
+beginsWith f i = cond (eqb (i % 2) 0) (f .levels) (f .turned)
+
 unfoldable pub firstAt : First → ℕ → ℕ
-firstAt f p = sixAt (f .levels) (rowsOf (f .keys)) (firstCount f (f .origin + p))
+firstAt f q = sixAt (beginsWith f (firstTurn f q)) (rowsOf (f .keys)) (firstCount f q)
 
 unfoldable pub secondAt : Second → ℕ → ℕ
 secondAt s p = sixAt (s .levels) (rowsOf (s .keys)) (countTo (p - s .length))
@@ -53,17 +54,23 @@ secondAt s p = sixAt (s .levels) (rowsOf (s .keys)) (countTo (p - s .length))
 abbrev pub secondBegun : Second → ℕ → Bool
 secondBegun s p = s .acts && leb (s .length) p
 
--- the count of the pattern that acts, the second or the first, and V1 to V6 by it
-abbrev pub countAt : Ready → Bool → ℕ → ℕ
-countAt r second p =
-    cond second (countTo (p - r .second .length)) (firstCount (r .first) (r .first .origin + p))
+-- what acts at a pixel: 0 and 1 are the first pattern, in a repetition of even and of odd number, 2 is the second; then the count there, and V1
+-- to V6 by it
+unfoldable pub sideOf : Ready → ℕ → ℕ
+sideOf r p = cond (secondBegun (r .second) p) 2 (firstTurn (r .first) (r .first .origin + p) % 2)
 
-unfoldable pub sideAt : Ready → Bool → ℕ → ℕ
-sideAt r second n =
-    cond second (sixAt (r .second .levels) (rowsOf (r .second .keys)) n) (sixAt (r .first .levels) (rowsOf (r .first .keys)) n)
+abbrev pub countAt : Ready → ℕ → ℕ → ℕ
+countAt r side p =
+    cond (eqb side 2) (countTo (p - r .second .length)) (firstCount (r .first) (r .first .origin + p))
+
+unfoldable pub sideAt : Ready → ℕ → ℕ → ℕ
+sideAt r side n =
+    cond (eqb side 2)
+    (sixAt (r .second .levels) (rowsOf (r .second .keys)) n)
+    (sixAt (cond (eqb side 0) (r .first .levels) (r .first .turned)) (rowsOf (r .first .keys)) n)
 
 unfoldable pub unmaskedAt : Ready → ℕ → ℕ
-unmaskedAt r p = cond (secondBegun (r .second) p) (secondAt (r .second) p) (firstAt (r .first) p)
+unmaskedAt r p = cond (secondBegun (r .second) p) (secondAt (r .second) p) (firstAt (r .first) (r .first .origin + p))
 
 abbrev pub edgesAt : Edges → ℕ → ℕ
 edgesAt e p = flipped (e .level) (bit (leb (e .on) p) + bit (leb (e .off) p))

@@ -1,4 +1,4 @@
--- The word of 14 output levels at a pixel of a line, output by output.
+-- The word of 14 output levels at a pixel of a line, output by output. A line says how V1 to V6 run on it; no version and no mode is looked at.
 -- Assumes nothing.
 use Prim.Native.Nat.{ℕ, _+_, _-_, _*_, _/_, _%_, _^_}
 use mathlib.Core.List.{List}
@@ -6,9 +6,10 @@ use mathlib.Core.Bool.{Bool, true, false, cond, _&&_}
 use lib.ListN.{getD}
 use lib.Dec.{ltb, leb}
 use Rattle.profile.specs.Patterns.{rowOf, not4095, used}
-use Rattle.profile.specs.declared.Mode.{Mode}
-use Rattle.profile.specs.declared.Mode.the-variants.{Plain, Sweep, Multiplier}
+use Rattle.profile.specs.declared.Mode.the-variants.{Plain}
 use Rattle.profile.specs.declared.Pattern.{Pattern}
+use Rattle.level.specs.declared.Run.{Run}
+use Rattle.level.specs.declared.Run.the-variants.{Afresh, Carried, Multiplied}
 use Rattle.level.specs.declared.Mask.{Mask}
 use Rattle.level.specs.declared.Pulse.{Pulse}
 use Rattle.level.specs.declared.Span.{Span}
@@ -37,14 +38,34 @@ flips uses scale row t =
 abbrev pub startLevel : Pattern → ℕ → ℕ
 startLevel a k = a .levels / 2 ^ k % 2
 
--- "t = pixel − start. Before start the level is the start level. .. While t < r × length, the level is the start level flipped once for
+-- the number of an output's used toggles
+abbrev pub usedToggles : (ℕ → Bool) → List ℕ → ℕ
+usedToggles uses row = bit (uses (getD row 0 0)) + bit (uses (getD row 1 0)) + bit (uses (getD row 2 0))
+
+-- the used toggles of output k in a run, and how many there are
+abbrev pub runFlips : Pattern → ℕ → ℕ → ℕ
+runFlips a k t = flips (used Plain (a .length)) 1 (rowOf (a .toggles) k) t
+
+abbrev pub runToggles : Pattern → ℕ → ℕ
+runToggles a k = usedToggles (used Plain (a .length)) (rowOf (a .toggles) k)
+
+-- Version 1: "t = pixel − start. Before start the level is the start level. .. While t < r × length, the level is the start level flipped once for
 -- each used toggle at or below t mod length: each repetition starts afresh. After that it is the start level."
 abbrev pub runLevel : Pattern → ℕ → ℕ → ℕ → ℕ → ℕ
 runLevel a start r k q =
     cond (ltb q start) (startLevel a k)
     (cond (ltb (q - start) (r * a .length))
-    (flipped (startLevel a k) (flips (used Plain (a .length)) 1 (rowOf (a .toggles) k) ((q - start) % a .length)))
+    (flipped (startLevel a k) (runFlips a k ((q - start) % a .length)))
     (startLevel a k))
+
+-- Version 2: "A new repetition takes over the level the last one ended with, and after the last run the level stays." While t < r × length, the
+-- start level is flipped t / length times by all its used toggles, and by those at or below t mod length; after that r times by all.
+abbrev pub carriedLevel : Pattern → ℕ → ℕ → ℕ → ℕ → ℕ
+carriedLevel a start r k q =
+    cond (ltb q start) (startLevel a k)
+    (cond (ltb (q - start) (r * a .length))
+    (flipped (startLevel a k) ((q - start) / a .length * runToggles a k + runFlips a k ((q - start) % a .length)))
+    (flipped (startLevel a k) (r * runToggles a k)))
 
 -- "Multiplier: t likewise; one flip for each used toggle with toggle × length at or below t, and no return afterwards."
 abbrev pub timesLevel : Pattern → ℕ → ℕ → ℕ → ℕ
@@ -52,11 +73,12 @@ timesLevel a start k q =
     cond (ltb q start) (startLevel a k)
     (flipped (startLevel a k) (flips not4095 (a .length) (rowOf (a .toggles) k) (q - start)))
 
--- the first pattern by mode; "Sweep: the same with t counted from the region's first pixel, through line ends."
-abbrev pub firstLevel : Mode → Pattern → ℕ → ℕ → ℕ → ℕ → ℕ → ℕ
-firstLevel Plain a start origin r k p = runLevel a start r k p
-firstLevel Sweep a start origin r k p = runLevel a start r k (origin + p)
-firstLevel Multiplier a start origin r k p = timesLevel a start k (origin + p)
+-- the first pattern, as it runs, at pixel q since its start level was set; "Sweep: the same with t counted from the region's first pixel, through
+-- line ends."
+abbrev pub firstLevel : Run → Pattern → ℕ → ℕ → ℕ → ℕ → ℕ
+firstLevel Afresh a start r k q = runLevel a start r k q
+firstLevel Carried a start r k q = carriedLevel a start r k q
+firstLevel Multiplied a start r k q = timesLevel a start k q
 
 -- "Second pattern: .. from the pixel equal to its length, its start level flipped for each used toggle at or below pixel − length."
 abbrev pub secondLevel : Pattern → ℕ → ℕ → ℕ
@@ -66,7 +88,7 @@ abbrev pub unmasked : Line → ℕ → ℕ → ℕ
 unmasked l k p =
     cond (l .«second_acts» && leb (l .second .length) p)
     (secondLevel (l .second) k p)
-    (firstLevel (l .mode) (l .pattern) (l .start) (l .origin) (l .repetitions) k p)
+    (firstLevel (l .run) (l .pattern) (l .start) (l .repetitions) k (l .origin + p))
 
 -- "Mask, last: in freeze ≤ pixel < resume, the level that the unmasked rules give at pixel freeze."
 abbrev pub frozen : Mask → ℕ → Bool

@@ -7,10 +7,18 @@ pub use lines::line_of;
 pub use outputs::fill;
 pub use outputs::word_of;
 pub use place::level;
+pub use place::level_in;
 pub use place::locate;
-use profile::Mode;
+pub use place::locate_in;
 use profile::Pattern;
 use profile::Verdict;
+
+// How V1 to V6 run on a line: each repetition starts afresh, or takes over the levels that the last one ended with, or the toggles are multiplied.
+pub enum Run {
+    Afresh,
+    Carried,
+    Multiplied,
+}
 
 // A freeze and resume pair, and whether the mask turns it on.
 pub struct Mask {
@@ -34,10 +42,10 @@ pub struct Span {
     pub to: u16,
 }
 
-// All that one line needs. `origin` is the number of its region's pixels before it; `second_acts` says that the second pattern acts on it.
+// All that one line needs. `origin` is the number of its region's pixels before it, in plain 0; `second_acts` says that the second pattern acts on it.
 pub struct Line {
     pub length: u16,
-    pub mode: Mode,
+    pub run: Run,
     pub pattern: Pattern,
     pub start: u16,
     pub origin: u32,

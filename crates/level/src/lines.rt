@@ -1,7 +1,8 @@
-// The line of a number: where everything acts on it, worked out from the tables and the field once a line.
+// The line of a number: where everything acts on it, worked out from the rule version, the tables and the field once a line.
 use crate::Line;
 use crate::Mask;
 use crate::Pulse;
+use crate::Run;
 use crate::Span;
 use profile::Field;
 use profile::Gate;
@@ -24,13 +25,46 @@ ghost use mathlib.Core.Bool.{_&&_};
 ghost use Rattle.profile.specs.Geometry.{regionPixels};
 ghost use lib.Dec.{eqb};
 ghost use Rattle.profile.specs.Rules.{hasSecond};
-ghost use Rattle.level.specs.Line.{onGateLine, absentPulse, absentSpan, gateHere, gatesHere, subckHere, opensAt, closesAt, shutterHere, lineIn, noLine, lineOf};
+ghost use Rattle.level.specs.Line.{onGateLine, absentPulse, absentSpan, gateHere, gatesHere, subckHere, opensAt, closesAt, shutterHere, repeated as repeatedRun, runOf, originOf, lineIn, noLine, lineOf};
+
+// How a repetition begins, by the rule version.
+fn repeated(version: u16) -> Run
+    ensures { λ r. ⌜ r ≡ repeatedRun version ⌝ }
+{
+    if version < 2 {
+        Run::Afresh
+    } else {
+        Run::Carried
+    }
+}
+
+// How V1 to V6 run in a region.
+fn run_of(version: u16, mode: Mode) -> Run
+    ensures { λ r. ⌜ r ≡ runOf version mode ⌝ }
+{
+    match mode {
+        Mode::Plain => repeated(version),
+        Mode::Sweep => repeated(version),
+        Mode::Multiplier => Run::Multiplied,
+    }
+}
 
 // The region's pixels before a line of region i.
-fn origin_of(tables: Tables, field: Field, i: usize, line: u16) -> u32
+fn pixels_before(tables: Tables, field: Field, i: usize, line: u16) -> u32
     ensures { λ r. ⌜ r ≡ regionPixels tables field i line ⌝ }
 {
     region_pixels(tables, field, i, line) as u32
+}
+
+// Those of them since the start level was set: in plain none, for each line sets it.
+fn origin_of(mode: Mode, before: u32) -> u32
+    ensures { λ r. ⌜ r ≡ originOf mode before ⌝ }
+{
+    match mode {
+        Mode::Plain => 0,
+        Mode::Sweep => before,
+        Mode::Multiplier => before,
+    }
 }
 
 // A freeze and resume pair, turned on by its bit of the mask.
@@ -169,8 +203,8 @@ fn shutter_here(shutter: Shutter, line: u16, length: u16) -> Span
 }
 
 // A line of region i.
-fn line_in(tables: Tables, field: Field, line: u16, i: usize) -> Line
-    ensures { λ r. ⌜ r ≡ lineIn tables field line i ⌝ }
+fn line_in(version: u16, tables: Tables, field: Field, line: u16, i: usize) -> Line
+    ensures { λ r. ⌜ r ≡ lineIn version tables field line i ⌝ }
 {
     let region = region_at(field, i);
     let mode = region.mode;
@@ -184,10 +218,10 @@ fn line_in(tables: Tables, field: Field, line: u16, i: usize) -> Line
     let shutters = tables.shutters;
     Line {
         length: length,
-        mode: mode,
+        run: run_of(version, mode),
         pattern: pattern,
         start: sequence.start,
-        origin: origin_of(tables, field, i, line),
+        origin: origin_of(mode, pixels_before(tables, field, i, line)),
         repetitions: repetitions(sequence, line as u64),
         mask1: mask_of(sequence.mask, 1, pattern.freeze1, pattern.resume1),
         mask2: mask_of(sequence.mask, 2, pattern.freeze2, pattern.resume2),
@@ -213,7 +247,7 @@ fn no_line() -> Line
     let span = absent_span();
     Line {
         length: 0,
-        mode: Mode::Plain,
+        run: Run::Afresh,
         pattern: empty_pattern(),
         start: 0,
         origin: 0,
@@ -229,12 +263,12 @@ fn no_line() -> Line
     }
 }
 
-// The line of a number; nothing acts on a line that the field does not have.
-pub fn line_of(tables: Tables, field: Field, line: u64) -> Line
-    ensures { λ r. ⌜ r ≡ lineOf tables field line ⌝ }
+// The line of a number by a rule version; nothing acts on a line that the field does not have.
+pub fn line_of(version: u16, tables: Tables, field: Field, line: u64) -> Line
+    ensures { λ r. ⌜ r ≡ lineOf version tables field line ⌝ }
 {
     if (field.lines as u64) <= line {
         return no_line();
     }
-    line_in(tables, field, line as u16, region_of(field, line))
+    line_in(version, tables, field, line as u16, region_of(field, line))
 }

@@ -4,11 +4,11 @@
 use crate::Line;
 use crate::Mask;
 use crate::Pulse;
+use crate::Run;
 use crate::Span;
-use profile::Mode;
 use profile::Pattern;
 use profile::rows_of;
-ghost use Prim.Native.Nat.{ℕ, _+_, _-_, _*_, _^_, _≤_, _<_};
+ghost use Prim.Native.Nat.{ℕ, _+_, _-_, _*_, _%_, _^_, _≤_, _<_};
 ghost use mathlib.Core.Path.{_≡_};
 ghost use mathlib.Core.Bool.{true};
 ghost use mathlib.Core.List.{[], _∷_};
@@ -18,13 +18,15 @@ ghost use Rattle.profile.specs.Lists.{chunks};
 ghost use Rattle.profile.specs.Patterns.{rowsOf};
 ghost use Rattle.level.specs.Word.{bit, flipped, within, frozen, shownAt, pulseLevel, spanLevel, wordOf};
 ghost use Rattle.level.specs.Fieldwords.{lineWords};
-ghost use Rattle.level.specs.Count.{runCount, keyOf, keysOf, countTo, timesCount, upTo, passed, sixAt};
-ghost use Rattle.level.specs.Ready.{runWord, timesWord, firstWord, secondWord, othersWord, firstCount, firstAt, secondAt, secondBegun, countAt, sideAt, unmaskedAt, edgesAt, noEdges, eightAt, Stays, Keeps, readyWord};
+ghost use Rattle.level.specs.declared.Run.the-variants.{Afresh, Carried, Multiplied};
+ghost use Rattle.level.specs.Count.{runCount, runTurn, keyOf, keysOf, countTo, timesCount, upTo, passed, sixAt};
+ghost use Rattle.level.specs.Ready.{firstWord, secondWord, othersWord, firstCount, firstTurn, firstAt, secondAt, secondBegun, sideOf, countAt, sideAt, unmaskedAt, edgesAt, noEdges, eightAt, Stays, Keeps, readyWord};
 
-// The first pattern made ready. `times` says that it is multiplied; in plain its origin is 0.
+// The first pattern made ready. `times` says that it is multiplied; `levels` begin the repetitions of even number, `turned` those of odd number.
 struct First {
     times: bool,
     levels: u16,
+    turned: u16,
     length: u16,
     keys: [u16; 18],
     start: u16,
@@ -63,9 +65,9 @@ struct Kept {
     levels: u16,
 }
 
-// The levels of V1 to V6 kept, and whether they are the second pattern's.
+// The levels of V1 to V6 kept, and what they are of: the first pattern in a repetition of even number (0) or of odd number (1), or the second (2).
 struct KeptSix {
-    second: bool,
+    side: u16,
     kept: Kept,
 }
 
@@ -139,6 +141,21 @@ fn run(start: u16, length: u16, r: u16, q: u32) -> u16
     0
 }
 
+// 1 in a repetition of odd number, and after an odd number of them; else 0.
+fn turn(start: u16, length: u16, r: u16, q: u32) -> u16
+    ensures { λ n. ⌜ n ≡ runTurn start length r q % 2 ⌝ }
+{
+    let s = start as u32;
+    if q < s {
+        return 0;
+    }
+    let t = q - s;
+    if t < run_length(r, length) {
+        return (t / (length as u32) % 2) as u16;
+    }
+    r % 2
+}
+
 // The count that passes the used toggles up to m.
 fn count_to(m: u64) -> u16
     ensures { λ n. ⌜ n ≡ countTo m ⌝ }
@@ -189,6 +206,16 @@ fn count(f: First, p: u64) -> u16
         return times(f.start, f.length, q);
     }
     run(f.start, f.length, f.repetitions, q)
+}
+
+// Whether the first pattern's repetition is of odd number, 1 or 0.
+fn first_turn(f: First, p: u64) -> u16
+    ensures { λ n. ⌜ n ≡ firstTurn f (f .origin + p) % 2 ⌝ }
+{
+    if f.times {
+        return 0;
+    }
+    turn(f.start, f.length, f.repetitions, region_pixel(f.origin, p))
 }
 
 // Whether the second pattern has taken over.
@@ -343,14 +370,35 @@ fn keys_of(t: [u16; 18]) -> [u16; 18]
     ]
 }
 
-// Plain and sweep made ready: a toggle is its own key.
-fn run_first(a: Pattern, start: u16, origin: u32, r: u16) -> First
-    ensures { λ f. ⌜ ((p : ℕ) → firstAt f p ≡ runWord a start r (origin + p)) ⌝ }
+// Each repetition begins with the start levels. A toggle is its own key.
+fn afresh_first(a: Pattern, start: u16, origin: u32, r: u16) -> First
+    ensures { λ f. ⌜ (f .origin ≡ origin) × ((q : ℕ) → firstAt f q ≡ firstWord Afresh a start r q) ⌝ }
 {
     let t = a.toggles;
+    let levels = six(a.levels, rows_of(t), 0);
     First {
         times: false,
-        levels: a.levels,
+        levels: levels,
+        turned: levels,
+        length: a.length,
+        keys: t,
+        start: start,
+        origin: origin,
+        repetitions: r,
+    }
+}
+
+// Each repetition begins with the levels that the last one ended with: one of odd number with the start levels flipped by every used toggle.
+fn carried_first(a: Pattern, start: u16, origin: u32, r: u16) -> First
+    ensures { λ f. ⌜ (f .origin ≡ origin) × ((q : ℕ) → firstAt f q ≡ firstWord Carried a start r q) ⌝ }
+{
+    let t = a.toggles;
+    let levels = six(a.levels, rows_of(t), 0);
+    let turned = six(a.levels, rows_of(t), a.length);
+    First {
+        times: false,
+        levels: levels,
+        turned: turned,
         length: a.length,
         keys: t,
         start: start,
@@ -360,30 +408,31 @@ fn run_first(a: Pattern, start: u16, origin: u32, r: u16) -> First
 }
 
 // Multiplier made ready.
-fn times_first(a: Pattern, start: u16, origin: u32) -> First
-    ensures { λ f. ⌜ ((p : ℕ) → firstAt f p ≡ timesWord a start (origin + p)) ⌝ }
+fn times_first(a: Pattern, start: u16, origin: u32, r: u16) -> First
+    ensures { λ f. ⌜ (f .origin ≡ origin) × ((q : ℕ) → firstAt f q ≡ firstWord Multiplied a start r q) ⌝ }
 {
     let t = a.toggles;
     let keys = keys_of(t);
     First {
         times: true,
         levels: a.levels,
+        turned: a.levels,
         length: a.length,
         keys: keys,
         start: start,
         origin: origin,
-        repetitions: 0,
+        repetitions: r,
     }
 }
 
-// The first pattern made ready by its mode.
-fn first_of(mode: Mode, a: Pattern, start: u16, origin: u32, r: u16) -> First
-    ensures { λ f. ⌜ ((p : ℕ) → firstAt f p ≡ firstWord mode a start origin r p) ⌝ }
+// The first pattern made ready, as it runs.
+fn first_of(run: Run, a: Pattern, start: u16, origin: u32, r: u16) -> First
+    ensures { λ f. ⌜ (f .origin ≡ origin) × ((q : ℕ) → firstAt f q ≡ firstWord run a start r q) ⌝ }
 {
-    match mode {
-        Mode::Plain => run_first(a, start, 0, r),
-        Mode::Sweep => run_first(a, start, origin, r),
-        Mode::Multiplier => times_first(a, start, origin),
+    match run {
+        Run::Afresh => afresh_first(a, start, origin, r),
+        Run::Carried => carried_first(a, start, origin, r),
+        Run::Multiplied => times_first(a, start, origin, r),
     }
 }
 
@@ -458,9 +507,9 @@ fn others_of(gates: [Pulse; 5], subck: Pulse, mshut: Span, strobe: Span) -> [Edg
 fn prepare(line: Line) -> Ready
     ensures { λ r. ⌜ ((p : ℕ) → readyWord r p ≡ wordOf line p) ⌝ }
 {
-    let mode = line.mode;
+    let run = line.run;
     let a = line.pattern;
-    let first = first_of(mode, a, line.start, line.origin, line.repetitions);
+    let first = first_of(run, a, line.start, line.origin, line.repetitions);
     let b = line.second;
     let second = second_of(line.second_acts, b);
     let mask1 = line.mask1;
@@ -477,19 +526,6 @@ fn prepare(line: Line) -> Ready
         mask2: mask2,
         others: others,
     }
-}
-
-// Whether two answers are one.
-fn alike(a: bool, b: bool) -> bool
-    ensures { λ r. ⌜ (r ≡ true → a ≡ b) ⌝ }
-{
-    if a {
-        return b;
-    }
-    if b {
-        return false;
-    }
-    true
 }
 
 // Whether the levels kept are those at a number.
@@ -539,26 +575,41 @@ fn six_from(levels: u16, keys: [u16; 18], n: u16) -> Kept
     }
 }
 
-// The same by the second pattern or the first.
-fn side_from(r: Ready, second: bool, n: u16) -> Kept
-    ensures { λ k. ⌜ Keeps 64 (sideAt r second) k × (k .levels ≡ sideAt r second n) ⌝ }
+// The same of what acts.
+fn side_from(r: Ready, side: u16, n: u16) -> Kept
+    ensures { λ k. ⌜ Keeps 64 (sideAt r side) k × (k .levels ≡ sideAt r side n) ⌝ }
 {
-    if second {
+    if side == 2 {
         let s = r.second;
         let keys = s.keys;
         return six_from(s.levels, keys, n);
     }
     let f = r.first;
     let keys = f.keys;
-    six_from(f.levels, keys, n)
+    if side == 0 {
+        return six_from(f.levels, keys, n);
+    }
+    six_from(f.turned, keys, n)
 }
 
-// The count at a pixel of the pattern that acts there.
-fn count_at(r: Ready, second: bool, p: u64) -> u16
-    requires { ⌜ second ≡ secondBegun (r .second) p ⌝ }
-    ensures { λ n. ⌜ n ≡ countAt r second p ⌝ }
+// What acts at a pixel.
+fn side_of(r: Ready, p: u64) -> u16
+    ensures { λ n. ⌜ n ≡ sideOf r p ⌝ }
 {
-    if second {
+    let s = r.second;
+    if begun(s, p) {
+        return 2;
+    }
+    let f = r.first;
+    first_turn(f, p)
+}
+
+// The count at a pixel of what acts there.
+fn count_at(r: Ready, side: u16, p: u64) -> u16
+    requires { ⌜ side ≡ sideOf r p ⌝ }
+    ensures { λ n. ⌜ n ≡ countAt r side p ⌝ }
+{
+    if side == 2 {
         let s = r.second;
         return count_to(p - (s.length as u64));
     }
@@ -568,29 +619,28 @@ fn count_at(r: Ready, second: bool, p: u64) -> u16
 
 // V1 to V6 at a pixel before masks: those kept, or new ones.
 fn unmasked(r: Ready, k: KeptSix, p: u64) -> KeptSix
-    requires { ⌜ Keeps 64 (sideAt r (k .second)) (k .kept) ⌝ }
-    ensures { λ v. ⌜ Keeps 64 (sideAt r (v .second)) (v .kept) × (v .kept .levels ≡ unmaskedAt r p) ⌝ }
+    requires { ⌜ Keeps 64 (sideAt r (k .side)) (k .kept) ⌝ }
+    ensures { λ v. ⌜ Keeps 64 (sideAt r (v .side)) (v .kept) × (v .kept .levels ≡ unmaskedAt r p) ⌝ }
 {
-    let s = r.second;
-    let second = begun(s, p);
-    let n = count_at(r, second, p);
+    let side = side_of(r, p);
+    let n = count_at(r, side, p);
     let kept = k.kept;
-    if alike(k.second, second) {
+    if k.side == side {
         if covers(kept, n) {
             return k;
         }
     }
-    let new = side_from(r, second, n);
+    let new = side_from(r, side, n);
     KeptSix {
-        second: second,
+        side: side,
         kept: new,
     }
 }
 
 // V1 to V6 as the masks let them show.
 fn masked(r: Ready, k: KeptSix, p: u64) -> KeptSix
-    requires { ⌜ Keeps 64 (sideAt r (k .second)) (k .kept) ⌝ }
-    ensures { λ v. ⌜ Keeps 64 (sideAt r (v .second)) (v .kept) × (v .kept .levels ≡ unmaskedAt r (shownAt (r .mask1) (r .mask2) p)) ⌝ }
+    requires { ⌜ Keeps 64 (sideAt r (k .side)) (k .kept) ⌝ }
+    ensures { λ v. ⌜ Keeps 64 (sideAt r (v .side)) (v .kept) × (v .kept .levels ≡ unmaskedAt r (shownAt (r .mask1) (r .mask2) p)) ⌝ }
 {
     let a = r.mask1;
     let b = r.mask2;
@@ -658,7 +708,7 @@ fn words(r: Ready, first: u64, out: &mut [u16])
         levels: 0,
     };
     let mut v = KeptSix {
-        second: false,
+        side: 0,
         kept: none,
     };
     let mut e = none;

@@ -6,10 +6,12 @@ use crate::lines::line_of;
 use crate::outputs::word_of;
 use profile::Field;
 use profile::Profile;
+use profile::Ruleset;
 use profile::Tables;
 use profile::accept;
-use profile::check;
+use profile::check_in;
 use profile::has_pixel;
+use profile::newest_rules;
 use profile::refuse;
 use profile::region_at;
 use profile::region_count;
@@ -18,13 +20,14 @@ use profile::sequence_of;
 ghost use mathlib.Core.Path.{_≡_};
 ghost use Prim.Native.Nat.{_*_, _≤_, _<_};
 ghost use Rattle.profile.specs.Geometry.{Ordered, regionCount, firstLine, regionSize};
+ghost use Rattle.profile.specs.Versions.{newestRules};
 ghost use Rattle.level.specs.Place.{levelAnswer, placeOf, placeAnswer, locateAnswer, lastMultiple};
 
 // The word at a line and pixel; 0 where it is refused.
-pub fn level(profile: Profile, line: u64, pixel: u64) -> LevelAnswer
-    ensures { λ r. ⌜ r ≡ levelAnswer profile line pixel ⌝ }
+pub fn level_in(rules: Ruleset, profile: Profile, line: u64, pixel: u64) -> LevelAnswer
+    ensures { λ r. ⌜ r ≡ levelAnswer rules profile line pixel ⌝ }
 {
-    let verdict = check(profile);
+    let verdict = check_in(rules, profile);
     if verdict.number != 0 {
         return LevelAnswer {
             verdict: verdict,
@@ -41,8 +44,15 @@ pub fn level(profile: Profile, line: u64, pixel: u64) -> LevelAnswer
     }
     LevelAnswer {
         verdict: accept(),
-        word: word_of(line_of(tables, field, line), pixel),
+        word: word_of(line_of(rules.version, tables, field, line), pixel),
     }
+}
+
+// The same by the newest rules.
+pub fn level(profile: Profile, line: u64, pixel: u64) -> LevelAnswer
+    ensures { λ r. ⌜ r ≡ levelAnswer newestRules profile line pixel ⌝ }
+{
+    level_in(newest_rules(), profile, line, pixel)
 }
 
 // The last of some lines of one length that starts at or before pixel n; 0 where there is none.
@@ -103,10 +113,10 @@ fn place_of(tables: Tables, field: Field, n: u64) -> Located
 }
 
 // The line and pixel of field pixel n; 0 and 0 where it is refused.
-pub fn locate(profile: Profile, n: u64) -> Located
-    ensures { λ r. ⌜ r ≡ locateAnswer profile n ⌝ }
+pub fn locate_in(rules: Ruleset, profile: Profile, n: u64) -> Located
+    ensures { λ r. ⌜ r ≡ locateAnswer rules profile n ⌝ }
 {
-    let verdict = check(profile);
+    let verdict = check_in(rules, profile);
     if verdict.number != 0 {
         return Located {
             verdict: verdict,
@@ -117,4 +127,11 @@ pub fn locate(profile: Profile, n: u64) -> Located
     let tables = profile.tables;
     let field = profile.field;
     place_of(tables, field, n)
+}
+
+// The same by the newest rules.
+pub fn locate(profile: Profile, n: u64) -> Located
+    ensures { λ r. ⌜ r ≡ locateAnswer newestRules profile n ⌝ }
+{
+    locate_in(newest_rules(), profile, n)
 }

@@ -46,6 +46,7 @@ use Rattle.profile.specs.declared.Tables.{Tables}
 use Rattle.profile.specs.declared.Field.{Field}
 use Rattle.profile.specs.declared.Profile.{Profile}
 use Rattle.profile.specs.declared.Verdict.{Verdict}
+use Rattle.profile.specs.declared.Ruleset.{Ruleset}
 use Rattle.profile.proofs.Laws.{by-cases, two-or-three, each-map, each-append, each-right}
 use Rattle.profile.proofs.Checked.{check-range, judge-entries, numbered-rules, EachAt, at-parts, parts-at, rules-parts, parts-rules}
 use Rattle.profile.proofs.Entries.{Numbered, Hold, hold-accepted}
@@ -191,7 +192,7 @@ says-starts f (suc i) =
 
 -- ---- the rules of a field
 
-module _ (t : Tables) (f : Field) where
+module _ (rules : Ruleset) (t : Tables) (f : Field) where
   says-lines : Says (linesRight f) (Each (λ g. g < f .lines) (gateLines f) × Differ (gateLines f))
   unfolding linesRight
   says-lines = says-and (says-map _ _ (λ g. says-lt g (f .lines)) (gateLines f)) (says-differ (gateLines f))
@@ -224,7 +225,7 @@ module _ (t : Tables) (f : Field) where
   -- ---- a rule that holds passes its tests
 
   abbrev Passes : Entry → Type 0
-  Passes e = FieldRule t f (e .verdict) → e .holds ≡ true
+  Passes e = FieldRule rules t f (e .verdict) → e .holds ≡ true
 
   passes-region : (i : ℕ) → i < regionCount f → Each Passes (regionEntries t f i)
   passes-region i h =
@@ -249,9 +250,9 @@ module _ (t : Tables) (f : Field) where
   unfolding lineEntries
   passes-lines = ((λ r. let w = r .gate-line refl in says-lines .1 (w .inside, w .differ)), ((λ r. says-seconds .1 (r .gate-line refl .second)), tt))
 
-  passes-rules : Each Passes (rulesOf t f)
+  passes-rules : Each Passes (rulesOf rules t f)
   passes-rules =
-      parts-rules Passes t f
+      parts-rules Passes t f rules
       (record {
         order = λ i h. ((λ r. says-starts f i .1 (r .region-order i refl h)), tt);
         region = passes-region;
@@ -263,10 +264,10 @@ module _ (t : Tables) (f : Field) where
 
   -- ---- a rule whose tests pass holds
 
-  holds-field : (v : Verdict) → Each (At v) (rulesOf t f) → FieldRule t f v
+  holds-field : (v : Verdict) → Each (At v) (rulesOf rules t f) → FieldRule rules t f v
   unfolding lineEntries
   holds-field v w =
-      let all = rules-parts (At v) t f w in
+      let all = rules-parts (At v) t f rules w in
       let region : (i : ℕ) → i < regionCount f → EachAt (At v) i (mode i) (sequence i) (pattern i) (regionSize t f i) =
       λ i h. at-parts (At v) i (mode i) (sequence i) (pattern i) (regionSize t f i) (all .region i h) in
       record {
@@ -289,37 +290,37 @@ module _ (t : Tables) (f : Field) where
 
 -- ---- the rules of a profile
 
-module _ (p : Profile) where
+module _ (rules : Ruleset) (p : Profile) where
   -- 5, 6, then 7 to 17
   abbrev checks : List Entry
-  checks = rule 5 0 (inRange p) ∷ rule 6 0 (p .field .present) ∷ rulesOf (p .tables) (p .field)
+  checks = rule 5 0 (inRange p) ∷ rule 6 0 (p .field .present) ∷ rulesOf rules (p .tables) (p .field)
 
-  check-entries : checkProfile p ≡ firstBroken checks
+  check-entries : checkProfile rules p ≡ firstBroken checks
   unfolding checkProfile firstBroken
   check-entries = rw judge-entries
 
   numbered : Numbered checks
-  numbered = (lit≤ tt, (lit≤ tt, numbered-rules (p .tables) (p .field)))
+  numbered = (lit≤ tt, (lit≤ tt, numbered-rules rules (p .tables) (p .field)))
 
   abbrev Passed : Entry → Type 0
-  Passed e = Rule p (e .verdict) → e .holds ≡ true
+  Passed e = Rule rules p (e .verdict) → e .holds ≡ true
 
   passes : Each Passed checks
   passes = (
     (λ r. says-range p .1 (r .values refl)),
     (
       (λ r. r .field-given refl .0),
-      each-map (Passes (p .tables) (p .field)) Passed (λ e h r. h (r .fields .0)) (rulesOf (p .tables) (p .field))
-          (passes-rules (p .tables) (p .field)),
+      each-map (Passes rules (p .tables) (p .field)) Passed (λ e h r. h (r .fields .0)) (rulesOf rules (p .tables) (p .field))
+          (passes-rules rules (p .tables) (p .field)),
     ),
   )
 
-  holds : (v : Verdict) → Each (At v) checks → Rule p v
+  holds : (v : Verdict) → Each (At v) checks → Rule rules p v
   holds v w =
       record {
         values = λ e. says-range p .0 (w .0 (sym e));
         field-given = λ e. (w .1 .0 (sym e), tt);
-        fields = (holds-field (p .tables) (p .field) v (w .1 .1), tt);
+        fields = (holds-field rules (p .tables) (p .field) v (w .1 .1), tt);
       }
 
   -- ---- the entries rise in the stated order, whatever the number of regions
@@ -360,7 +361,7 @@ module _ (p : Profile) where
     not-before v e d a z =
         absurd (omega (arith, a .0, earlier-less d (w .entry) (a .1) (subst (λ (u : Verdict). Earlier u at) (sym z) e)))
 
-    first-is : FirstBroken p at
+    first-is : FirstBroken rules p at
     first-is =
         record {
           broken = λ r.
@@ -378,9 +379,9 @@ module _ (p : Profile) where
 
   -- every rule holds, or one is the first that does not
   abbrev pub Judged : Verdict → Type 0
-  Judged v = (((w : Verdict) → Rule p w) × (v ≡ accepted)) ⊎ FirstBroken p v
+  Judged v = (((w : Verdict) → Rule rules p w) × (v ≡ accepted)) ⊎ FirstBroken rules p v
 
-  pub check-judged : Judged (checkProfile p)
+  pub check-judged : Judged (checkProfile rules p)
   check-judged = subst Judged (sym check-entries) (go (first-broken checks))
     where
       go : Hold checks ⊎ First checks → Judged (firstBroken checks)
@@ -388,10 +389,10 @@ module _ (p : Profile) where
         (λ v. holds v (each-map (λ d. d .holds ≡ true) (At v) (λ d h z. h) checks h)),
         hold-accepted checks h,
       )
-      go (inr w) = inr (subst (FirstBroken p) (sym (w .named)) (first-is w))
+      go (inr w) = inr (subst (FirstBroken rules p) (sym (w .named)) (first-is w))
 
   -- no rule has the number 0
-  rule-0 : (v : Verdict) → v .number ≡ 0 → Rule p v
+  rule-0 : (v : Verdict) → v .number ≡ 0 → Rule rules p v
   rule-0 v z =
       holds v
       (each-map (λ e. 1 ≤ e .verdict .number) (At v)
@@ -400,47 +401,47 @@ module _ (p : Profile) where
 -- ---- the whole check
 
 -- "A profile is accepted exactly when it breaks no rule of 01"
-pub accepted-exactly : (p : Profile) → (checkProfile p ≡ accepted) ↔ ((v : Verdict) → Rule p v)
-accepted-exactly p = ((λ e. to e (check-judged p)), λ r. from r (check-judged p))
+pub accepted-exactly : (rules : Ruleset) (p : Profile) → (checkProfile rules p ≡ accepted) ↔ ((v : Verdict) → Rule rules p v)
+accepted-exactly rules p = ((λ e. to e (check-judged rules p)), λ r. from r (check-judged rules p))
   where
-    to : checkProfile p ≡ accepted → Judged p (checkProfile p) → (v : Verdict) → Rule p v
+    to : checkProfile rules p ≡ accepted → Judged rules p (checkProfile rules p) → (v : Verdict) → Rule rules p v
     to e (inl w) = w .0
-    to e (inr w) = absurd (subst (FirstBroken p) e w .broken (rule-0 p accepted refl))
+    to e (inr w) = absurd (subst (FirstBroken rules p) e w .broken (rule-0 rules p accepted refl))
 
-    from : ((v : Verdict) → Rule p v) → Judged p (checkProfile p) → checkProfile p ≡ accepted
+    from : ((v : Verdict) → Rule rules p v) → Judged rules p (checkProfile rules p) → checkProfile rules p ≡ accepted
     from r (inl w) = w .1
-    from r (inr w) = absurd (w .broken (r (checkProfile p)))
+    from r (inr w) = absurd (w .broken (r (checkProfile rules p)))
 
 -- "else the first broken rule in the stated order is named": its number and its place, and of 10 the output and the toggle
-pub refused-exactly : (p : Profile) (v : Verdict) → 1 ≤ v .number → (checkProfile p ≡ v) ↔ FirstBroken p v
-refused-exactly p v h = ((λ e. to e (check-judged p)), λ b. from b (check-judged p))
+pub refused-exactly : (rules : Ruleset) (p : Profile) (v : Verdict) → 1 ≤ v .number → (checkProfile rules p ≡ v) ↔ FirstBroken rules p v
+refused-exactly rules p v h = ((λ e. to e (check-judged rules p)), λ b. from b (check-judged rules p))
   where
-    to : checkProfile p ≡ v → Judged p (checkProfile p) → FirstBroken p v
+    to : checkProfile rules p ≡ v → Judged rules p (checkProfile rules p) → FirstBroken rules p v
     to e (inl w) = absurd (omega (arith, h, ap (λ (u : Verdict). u .number) (sym e ∙ w .1)))
-    to e (inr w) = subst (FirstBroken p) e w
+    to e (inr w) = subst (FirstBroken rules p) e w
 
-    from : FirstBroken p v → Judged p (checkProfile p) → checkProfile p ≡ v
+    from : FirstBroken rules p v → Judged rules p (checkProfile rules p) → checkProfile rules p ≡ v
     from b (inl w) = absurd (b .broken (w .0 v))
     from b (inr w) =
-        same-rule (checkProfile p) v (λ e. w .broken (b .before (checkProfile p) e)) (λ e. b .broken (w .before v e))
+        same-rule (checkProfile rules p) v (λ e. w .broken (b .before (checkProfile rules p) e)) (λ e. b .broken (w .before v e))
 
 -- a broken rule has a number
-pub broken-number : (p : Profile) (v : Verdict) → FirstBroken p v → 1 ≤ v .number
-broken-number p v b =
+pub broken-number : (rules : Ruleset) (p : Profile) (v : Verdict) → FirstBroken rules p v → 1 ≤ v .number
+broken-number rules p v b =
     by-cases (eqb (v .number) 0)
-    (λ q. absurd (b .broken (rule-0 p v (eqb-true (v .number) 0 q))))
+    (λ q. absurd (b .broken (rule-0 rules p v (eqb-true (v .number) 0 q))))
     (λ q. omega (arith, eqb-false (v .number) 0 q))
 
 -- ---- what an accepted profile has
 
-pub accepted-field : (p : Profile) → checkProfile p ≡ accepted → p .field .present ≡ true
-accepted-field p e = accepted-exactly p .0 e (refused 6 0) .field-given refl .0
+pub accepted-field : (rules : Ruleset) (p : Profile) → checkProfile rules p ≡ accepted → p .field .present ≡ true
+accepted-field rules p e = accepted-exactly rules p .0 e (refused 6 0) .field-given refl .0
 
 -- rule 7: its regions' lines follow one another
-pub accepted-ordered : (p : Profile) → checkProfile p ≡ accepted → Ordered (p .field)
-accepted-ordered p e =
-    let starts : (i : ℕ) → i < regionCount (p .field) → Starts (p .field) i = λ i. accepted-exactly p .0 e (refused 7 i) .fields .0 .region-order i refl in
-    let some = regions-some p (check-range p e) (accepted-field p e) in
+pub accepted-ordered : (rules : Ruleset) (p : Profile) → checkProfile rules p ≡ accepted → Ordered (p .field)
+accepted-ordered rules p e =
+    let starts : (i : ℕ) → i < regionCount (p .field) → Starts (p .field) i = λ i. accepted-exactly rules p .0 e (refused 7 i) .fields .0 .region-order i refl in
+    let some = regions-some p (check-range rules p e) (accepted-field rules p e) in
     record {
       some = some;
       zero = starts 0 some .1 refl;

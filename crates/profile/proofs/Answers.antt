@@ -13,18 +13,19 @@ use Rattle.profile.specs.Writing.{writeScript, writeAnswer, writeLeaves}
 use Rattle.profile.specs.declared.Profile.{Profile}
 use Rattle.profile.specs.declared.Verdict.{Verdict}
 use Rattle.profile.specs.declared.Written.{Written}
+use Rattle.profile.specs.declared.Ruleset.{Ruleset}
 
 -- the answer r, and l left in the slice, are those that are promised
-abbrev pub Right : Profile → List ℕ → Written → List ℕ → Type 0
-Right p out r l = (r ≡ writeAnswer p (length out)) × (l ≡ writeLeaves p out)
+abbrev pub Right : Ruleset → Profile → List ℕ → Written → List ℕ → Type 0
+Right rules p out r l = (r ≡ writeAnswer rules p (length out)) × (l ≡ writeLeaves rules p out)
 
-module _ (p : Profile) (out : List ℕ) (v : Verdict) (ev : v ≡ checkProfile p) where
-  pub refused-first : (v .number ≡ 0 → ⊥) → Right p out (record { verdict = v; length = 0 }) out
+module _ (rules : Ruleset) (p : Profile) (out : List ℕ) (v : Verdict) (ev : v ≡ checkProfile rules p) where
+  pub refused-first : (v .number ≡ 0 → ⊥) → Right rules p out (record { verdict = v; length = 0 }) out
   unfolding writeAnswer writeLeaves
   refused-first h = let e = ne-eqb (v .number) 0 h in rw (← ev, e, e) (refl, refl)
 
   module _ (h : v .number ≡ 0) (n : ℕ) (en : n ≡ length (writeScript p)) where
-    pub no-room : length out < n → Right p out (record { verdict = refused 18 n; length = 0 }) out
+    pub no-room : length out < n → Right rules p out (record { verdict = refused 18 n; length = 0 }) out
     unfolding writeAnswer writeLeaves
     no-room l =
         let e = eq-eqb (v .number) 0 h in
@@ -32,7 +33,7 @@ module _ (p : Profile) (out : List ℕ) (v : Verdict) (ev : v ≡ checkProfile p
         rw (← ev, e, f, en) (refl, refl)
 
     pub room : n ≤ length out → (last : List ℕ) → last ≡ over (writeScript p) out
-        → Right p out (record { verdict = accepted; length = n }) last
+        → Right rules p out (record { verdict = accepted; length = n }) last
     unfolding writeAnswer writeLeaves
     room l last el =
         let e = eq-eqb (v .number) 0 h in

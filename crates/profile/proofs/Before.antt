@@ -65,6 +65,7 @@ use Rattle.profile.specs.declared.Profile.{Profile}
 use Rattle.profile.specs.declared.Verdict.{Verdict}
 use Rattle.profile.specs.declared.ReadAnswer.{ReadAnswer}
 use Rattle.profile.specs.declared.Written.{Written}
+use Rattle.profile.specs.declared.Ruleset.{Ruleset}
 use Rattle.profile.proofs.Laws.{by-cases, image-at}
 use Rattle.profile.proofs.ByteRange.{bytes-part}
 use Rattle.profile.proofs.Reading.{empty-sized, step-sized}
@@ -224,18 +225,18 @@ judgeBefore p = judgeBy (patternBefore (p .tables .registers)) p
 pub checkBefore : Profile → Verdict
 checkBefore p = cond (inRangeBefore p) (judgeBefore p) (refused 5 0)
 
-judge-by : (p : Profile) → judge p ≡ judgeBy (patternOf (p .tables .registers)) p
+judge-by : (rules : Ruleset) (p : Profile) → judge rules p ≡ judgeBy (patternOf (p .tables .registers)) p
 unfolding judge entriesOf rulesOf lineEntries secondRight judgeBy rulesBy lineEntriesBy secondRightBy
-judge-by p = refl
+judge-by rules p = refl
 
-pub judge-before : (p : Profile) → Sized p → judge p ≡ judgeBefore p
+pub judge-before : (rules : Ruleset) (p : Profile) → Sized p → judge rules p ≡ judgeBefore p
 unfolding judgeBefore
-judge-before p z =
-    judge-by p ∙ ap (λ (pattern : ℕ → Pattern). judgeBy pattern p) (λ i k. pattern-before (p .tables .registers) (z .registers) k i)
+judge-before rules p z =
+    judge-by rules p ∙ ap (λ (pattern : ℕ → Pattern). judgeBy pattern p) (λ i k. pattern-before (p .tables .registers) (z .registers) k i)
 
-pub check-before : (p : Profile) → Sized p → checkProfile p ≡ checkBefore p
+pub check-before : (rules : Ruleset) (p : Profile) → Sized p → checkProfile rules p ≡ checkBefore p
 unfolding checkProfile checkBefore
-check-before p z = rw (range-before p, judge-before p z)
+check-before rules p z = rw (range-before p, judge-before rules p z)
 
 -- ---- the writer: its bytes have their definition still; its answer and what it leaves go by the check's verdict
 
@@ -245,13 +246,13 @@ writeBefore p room = writeBy (checkBefore p) (writeScript p) room
 pub leavesBefore : Profile → List ℕ → List ℕ
 leavesBefore p out = leavesBy (checkBefore p) (writeScript p) out
 
-pub write-before : (p : Profile) (room : ℕ) → Sized p → writeAnswer p room ≡ writeBefore p room
+pub write-before : (rules : Ruleset) (p : Profile) (room : ℕ) → Sized p → writeAnswer rules p room ≡ writeBefore p room
 unfolding writeAnswer writeBefore
-write-before p room z = rw (check-before p z)
+write-before rules p room z = rw (check-before rules p z)
 
-pub leaves-before : (p : Profile) (out : List ℕ) → Sized p → writeLeaves p out ≡ leavesBefore p out
+pub leaves-before : (rules : Ruleset) (p : Profile) (out : List ℕ) → Sized p → writeLeaves rules p out ≡ leavesBefore p out
 unfolding writeLeaves leavesBefore
-leaves-before p out z = rw (check-before p z)
+leaves-before rules p out z = rw (check-before rules p z)
 
 -- ---- reading
 
@@ -316,11 +317,11 @@ step-before : (s : List ℕ) (p : Profile) → Bytes s → step s p ≡ stepBefo
 unfolding step stepBy fits
 step-before s p bytes = rw (register-before (bodyOf s) (bytes-part s (numberAt s 0) 4 bytes))
 
-pub read-before : (s : List ℕ) → Bytes s → readScript s ≡ readBefore s
+pub read-before : (rules : Ruleset) (s : List ℕ) → Bytes s → readScript rules s ≡ readBefore s
 unfolding readBefore
-read-before s bytes =
-    read-by s
+read-before rules s bytes =
+    read-by rules s
     ∙ ⊎-elim (λ e. e) (λ e. absurd e)
     (read-agree Sized (λ n. ⊥) step stepBefore empty-sized
     (λ s p w z. alike Sized (λ n. ⊥) (step s p) (stepBefore s p) (step-before s p w) (λ len q. step-sized s p len q z))
-    judge judgeBefore judge-before (λ e. e) s bytes)
+    (judge rules) judgeBefore (judge-before rules) (λ e. e) s bytes)

@@ -36,6 +36,7 @@ use Rattle.profile.specs.declared.Tables.{Tables}
 use Rattle.profile.specs.declared.Field.{Field}
 use Rattle.profile.specs.declared.Profile.{Profile}
 use Rattle.profile.specs.declared.Verdict.{Verdict}
+use Rattle.profile.specs.declared.Ruleset.{Ruleset}
 use Rattle.profile.proofs.Laws.{by-cases, each-append, each-left, each-right, each-chunks, each-chunk}
 use Rattle.profile.proofs.Entries.{Numbered, number-accepted}
 
@@ -44,18 +45,18 @@ refused-accepted n at h e = absurd (omega (arith, ap (λ (v : Verdict). v .numbe
 
 -- ---- the check, then the judging
 
-pub check-range : (p : Profile) → checkProfile p ≡ accepted → inRange p ≡ true
+pub check-range : (rules : Ruleset) (p : Profile) → checkProfile rules p ≡ accepted → inRange p ≡ true
 unfolding checkProfile
-check-range p e = by-cases (inRange p) (λ h. h) (λ h. refused-accepted 5 0 (omega arith) (rw h at e))
+check-range rules p e = by-cases (inRange p) (λ h. h) (λ h. refused-accepted 5 0 (omega arith) (rw h at e))
 
-pub check-judge : (p : Profile) → inRange p ≡ true → checkProfile p ≡ judge p
+pub check-judge : (rules : Ruleset) (p : Profile) → inRange p ≡ true → checkProfile rules p ≡ judge rules p
 unfolding checkProfile
-check-judge p h = rw h
+check-judge rules p h = rw h
 
 -- there is one place, and its field's rules are the rest
-pub judge-entries : (p : Profile) → judge p ≡ firstBroken (rule 6 0 (p .field .present) ∷ rulesOf (p .tables) (p .field))
+pub judge-entries : (rules : Ruleset) (p : Profile) → judge rules p ≡ firstBroken (rule 6 0 (p .field .present) ∷ rulesOf rules (p .tables) (p .field))
 unfolding judge entriesOf flatMap
-judge-entries p = rw append-nil
+judge-entries rules p = rw append-nil
 
 -- ---- a claim of every rule, part by part
 
@@ -114,9 +115,9 @@ module _ (P : Entry → Type 0) where
     abbrev to-16 : List Entry
     to-16 = to-14 ++ gates ++ subckEntries t
 
-    pub rules-parts : Each P (rulesOf t f) → EachRule t f
+    pub rules-parts : (rules : Ruleset) → Each P (rulesOf rules t f) → EachRule t f
     unfolding rulesOf
-    rules-parts w =
+    rules-parts rules w =
         let w16 = each-left P to-16 shutters w in
         let w15 = each-left P (to-14 ++ gates) (subckEntries t) w16 in
         let w14 = each-left P to-14 gates w15 in
@@ -130,9 +131,9 @@ module _ (P : Entry → Type 0) where
           shutters = each-chunk P 2 (shutterEntries t f) (each-right P to-16 shutters w);
         }
 
-    pub parts-rules : EachRule t f → Each P (rulesOf t f)
+    pub parts-rules : (rules : Ruleset) → EachRule t f → Each P (rulesOf rules t f)
     unfolding rulesOf
-    parts-rules w =
+    parts-rules rules w =
         each-append P to-16 shutters
         (each-append P (to-14 ++ gates) (subckEntries t)
         (each-append P to-14 gates
@@ -160,9 +161,9 @@ pub numbered-lines : (t : Tables) (f : Field) → Numbered (lineEntries t f)
 unfolding lineEntries
 numbered-lines t f = (lit≤ tt, (lit≤ tt, tt))
 
-pub numbered-rules : (t : Tables) (f : Field) → Numbered (rulesOf t f)
-numbered-rules t f =
-    parts-rules _ t f
+pub numbered-rules : (rules : Ruleset) (t : Tables) (f : Field) → Numbered (rulesOf rules t f)
+numbered-rules rules t f =
+    parts-rules _ t f rules
     (record {
       order = λ i h. (lit≤ tt, tt);
       region = λ i h. numbered-at i _ _ _ _;
@@ -173,17 +174,17 @@ numbered-rules t f =
     })
 
 -- a judgement of number 0 is `accepted`: there is no other with that number
-pub judge-number : (p : Profile) → judge p .number ≡ 0 → judge p ≡ accepted
-judge-number p e =
-    rw judge-entries (number-accepted _ (lit≤ tt, numbered-rules (p .tables) (p .field)) (rw judge-entries at e))
+pub judge-number : (rules : Ruleset) (p : Profile) → judge rules p .number ≡ 0 → judge rules p ≡ accepted
+judge-number rules p e =
+    rw judge-entries (number-accepted _ (lit≤ tt, numbered-rules rules (p .tables) (p .field)) (rw judge-entries at e))
 
 -- there is no other verdict of number 0
-pub check-number : (p : Profile) → checkProfile p .number ≡ 0 → checkProfile p ≡ accepted
+pub check-number : (rules : Ruleset) (p : Profile) → checkProfile rules p .number ≡ 0 → checkProfile rules p ≡ accepted
 unfolding checkProfile
-check-number p z =
+check-number rules p z =
     by-cases (inRange p)
-    (λ h. let e = check-judge p h in e ∙ judge-number p (sym (ap (λ (v : Verdict). v .number) e) ∙ z))
-    (λ h. absurd (out-of-range p h z))
+    (λ h. let e = check-judge rules p h in e ∙ judge-number rules p (sym (ap (λ (v : Verdict). v .number) e) ∙ z))
+    (λ h. absurd (out-of-range rules p h z))
   where
-    out-of-range : (p : Profile) → inRange p ≡ false → checkProfile p .number ≡ 0 → ⊥
-    out-of-range p h z = let w : _≡_ {A = ℕ} 5 0 = rw h at z in omega arith
+    out-of-range : (rules : Ruleset) (p : Profile) → inRange p ≡ false → checkProfile rules p .number ≡ 0 → ⊥
+    out-of-range rules p h z = let w : _≡_ {A = ℕ} 5 0 = rw h at z in omega arith

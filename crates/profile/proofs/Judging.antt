@@ -41,6 +41,7 @@ use Rattle.profile.specs.declared.Tables.{Tables}
 use Rattle.profile.specs.declared.Field.{Field}
 use Rattle.profile.specs.declared.Profile.{Profile}
 use Rattle.profile.specs.declared.Verdict.{Verdict}
+use Rattle.profile.specs.declared.Ruleset.{Ruleset}
 use Rattle.profile.proofs.Laws.{by-cases, or-left, tested-no, tested-yes, all-one, chunks-more, chunks-ext, chunks-add}
 use Rattle.profile.proofs.Tested.{joined-all}
 use Rattle.profile.proofs.Reflects.{says-gate}
@@ -276,22 +277,22 @@ module _ (t : Tables) (f : Field) {v : Verdict} {q : Bool} (eq : q ≡ linesRigh
 -- ---- 7 to 17 in two parts
 
 module _ (t : Tables) (f : Field) {v : Verdict} where
-  pub rules-parts : v
+  pub rules-parts : (rules : Ruleset) → v
       ≡ firstBroken
       (chunks (regionCount f) (orderEntries f)
       ++ (chunks (regionCount f) (regionEntries t f)
       ++ (lineEntries t f ++ (chunks 5 (gateEntries t f) ++ (subckEntries t ++ chunks 2 (shutterEntries t f))))))
-      → v ≡ firstBroken (rulesOf t f)
+      → v ≡ firstBroken (rulesOf rules t f)
   unfolding rulesOf
-  rules-parts e = e ∙ simp append-assoc
+  rules-parts rules e = e ∙ simp append-assoc
 
 -- ---- 6
 
-module _ (p : Profile) {v : Verdict} where
-  pub judge-none : p .field .present ≡ false → v ≡ refused 6 0 → v ≡ judge p
+module _ (rules : Ruleset) (p : Profile) {v : Verdict} where
+  pub judge-none : p .field .present ≡ false → v ≡ refused 6 0 → v ≡ judge rules p
   judge-none e f = rw judge-entries (head-broken _ _ _ _ e f)
 
-  pub judge-some : p .field .present ≡ true → v ≡ firstBroken (rulesOf (p .tables) (p .field)) → v ≡ judge p
+  pub judge-some : p .field .present ≡ true → v ≡ firstBroken (rulesOf rules (p .tables) (p .field)) → v ≡ judge rules p
   judge-some e f = rw judge-entries (head-on _ _ _ _ e f)
 
 -- ---- the sets that `search` is handed

@@ -21,6 +21,7 @@ use Rattle.profile.specs.declared.Field.{Field}
 use Rattle.profile.specs.declared.Profile.{Profile}
 use Rattle.profile.specs.declared.Verdict.{Verdict}
 use Rattle.profile.specs.declared.ReadAnswer.{ReadAnswer}
+use Rattle.profile.specs.declared.Ruleset.{Ruleset}
 use Rattle.profile.proofs.Laws.{cond-case, by-cases}
 use Rattle.profile.proofs.Entries.{broken-one}
 use Rattle.profile.proofs.Checked.{judge-entries, parts-at, parts-rules}
@@ -39,10 +40,10 @@ names-accepted = names-none 0 0 (omega arith)
 
 -- ---- the check
 
-names-rules : (t : Tables) (f : Field) → Each (λ e. Names (e .verdict)) (rulesOf t f)
+names-rules : (rules : Ruleset) (t : Tables) (f : Field) → Each (λ e. Names (e .verdict)) (rulesOf rules t f)
 unfolding lineEntries
-names-rules t f =
-    parts-rules _ t f
+names-rules rules t f =
+    parts-rules _ t f rules
     (record {
       order = λ i h. (names-none 7 i (omega arith), tt);
       region = λ i h.
@@ -59,14 +60,14 @@ names-rules t f =
       shutters = λ k h. (names-none 17 k (omega arith), tt);
     })
 
-judge-names : (p : Profile) → Names (judge p)
-judge-names p =
-    rw judge-entries (broken-one Names _ names-accepted (names-none 6 0 (omega arith), names-rules (p .tables) (p .field)))
+judge-names : (rules : Ruleset) (p : Profile) → Names (judge rules p)
+judge-names rules p =
+    rw judge-entries (broken-one Names _ names-accepted (names-none 6 0 (omega arith), names-rules rules (p .tables) (p .field)))
 
 -- every verdict of the check: "refusal 10 then also returns output 1..6 and toggle"; "all other answers return 0 for both"
-pub check-names : (p : Profile) → Names (checkProfile p)
+pub check-names : (rules : Ruleset) (p : Profile) → Names (checkProfile rules p)
 unfolding checkProfile
-check-names p = cond-case Names (inRange p) _ _ (λ h. judge-names p) (λ h. names-none 5 0 (omega arith))
+check-names rules p = cond-case Names (inRange p) _ _ (λ h. judge-names rules p) (λ h. names-none 5 0 (omega arith))
 
 -- ---- answers made by a test, and after the check
 
@@ -75,9 +76,9 @@ module _ {A : Type 0} (verdict : A → Verdict) where
   tested-names b x z m n = cond-case (λ (a : A). Names (verdict a)) b x z (λ h. m) (λ h. n)
 
   -- what the check refuses is refused with its verdict
-  pub after-check : (p : Profile) (x z : A) → Names (verdict x) → verdict z ≡ checkProfile p
-      → Names (verdict (cond (accepts (checkProfile p)) x z))
-  after-check p x z n e = tested-names (accepts (checkProfile p)) x z n (rw e (check-names p))
+  pub after-check : (rules : Ruleset) (p : Profile) (x z : A) → Names (verdict x) → verdict z ≡ checkProfile rules p
+      → Names (verdict (cond (accepts (checkProfile rules p)) x z))
+  after-check rules p x z n e = tested-names (accepts (checkProfile rules p)) x z n (rw e (check-names rules p))
 
 -- ---- reading and writing
 
@@ -113,15 +114,15 @@ records-names [] skip at p = names-accepted
 records-names (x ∷ xs) zero at p = record-names x xs at p (λ skip at q. records-names xs skip at q) (step (x ∷ xs) p) refl
 records-names (x ∷ xs) (suc skip) at p = records-names xs skip (at + 1) p
 
-pub read-names : (s : List ℕ) → Names (readScript s .verdict)
+pub read-names : (rules : Ruleset) (s : List ℕ) → Names (readScript rules s .verdict)
 unfolding readScript
-read-names s =
+read-names rules s =
     let r = records 0 0 s emptyProfile in
     tested-names (λ (a : ReadAnswer). a .verdict) (leb (length s) mostBytes) _ _
-    (tested-names (λ (a : ReadAnswer). a .verdict) (accepts (r .verdict)) _ _ (judge-names (r .profile)) (records-names s 0 0 emptyProfile))
+    (tested-names (λ (a : ReadAnswer). a .verdict) (accepts (r .verdict)) _ _ (judge-names rules (r .profile)) (records-names s 0 0 emptyProfile))
     (names-none 1 0 (omega arith))
 
-pub write-names : (p : Profile) (room : ℕ) → Names (writeVerdict p room)
-write-names p room =
-    after-check (λ v. v) p _ _
+pub write-names : (rules : Ruleset) (p : Profile) (room : ℕ) → Names (writeVerdict rules p room)
+write-names rules p room =
+    after-check (λ v. v) rules p _ _
     (tested-names (λ v. v) (leb (length (writeScript p)) room) _ _ names-accepted (names-none 18 _ (omega arith))) refl

@@ -89,6 +89,7 @@ use Rattle.profile.specs.declared.Profile.{Profile}
 use Rattle.profile.specs.declared.Verdict.{Verdict}
 use Rattle.profile.specs.declared.ReadAnswer.{ReadAnswer}
 use Rattle.profile.specs.declared.Written.{Written}
+use Rattle.profile.specs.declared.Ruleset.{Ruleset}
 use Rattle.profile.proofs.Laws.{by-cases, all-one, chunks-ext}
 use Rattle.profile.proofs.Checked.{judge-entries, check-number}
 use Rattle.profile.proofs.Accepted.{accepted-field}
@@ -180,25 +181,25 @@ module _ (t : Tables) (f : Field) (e : f .gate2 ≡ none) where
   unfolding gateEntriesBefore
   gate-entries k = rw (eq-eqb (f .gate2) none e, all-one)
 
-  rules-before : rulesOf t f ≡ rulesBefore t f
+  rules-before : (rules : Ruleset) → rulesOf rules t f ≡ rulesBefore t f
   unfolding rulesOf rulesBefore
-  rules-before = rw (line-entries, chunks-ext 5 (gateEntries t f) (gateEntriesBefore t f) (λ k h. gate-entries k))
+  rules-before rules = rw (line-entries, chunks-ext 5 (gateEntries t f) (gateEntriesBefore t f) (λ k h. gate-entries k))
 
-pub judge-before : (p : Profile) → OneLine (p .field) → judge p ≡ judgeBefore p
+pub judge-before : (rules : Ruleset) (p : Profile) → OneLine (p .field) → judge rules p ≡ judgeBefore p
 unfolding judgeBefore firstBroken
-judge-before p h =
-    judge-entries p
+judge-before rules p h =
+    judge-entries rules p
     ∙ by-cases (p .field .present)
-    (λ e. ap (λ (es : List Entry). firstBroken (rule 6 0 (p .field .present) ∷ es)) (rules-before (p .tables) (p .field) (h .0 e)))
+    (λ e. ap (λ (es : List Entry). firstBroken (rule 6 0 (p .field .present) ∷ es)) (rules-before (p .tables) (p .field) (h .0 e) rules))
     (λ e. rw e)
 
-pub check-before : (p : Profile) → OneLine (p .field) → checkProfile p ≡ checkBefore p
+pub check-before : (rules : Ruleset) (p : Profile) → OneLine (p .field) → checkProfile rules p ≡ checkBefore p
 unfolding checkProfile checkBefore
-check-before p h = rw (range-before p h, judge-before p h)
+check-before rules p h = rw (range-before p h, judge-before rules p h)
 
 -- what is accepted has a field, so that its second gate line is none
-pub accepted-one : (p : Profile) → OneLine (p .field) → accepts (checkProfile p) ≡ true → p .field .gate2 ≡ none
-accepted-one p h a = h .0 (accepted-field p (check-number p (eqb-true (checkProfile p .number) 0 a)))
+pub accepted-one : (rules : Ruleset) (p : Profile) → OneLine (p .field) → accepts (checkProfile rules p) ≡ true → p .field .gate2 ≡ none
+accepted-one rules p h a = h .0 (accepted-field rules p (check-number rules p (eqb-true (checkProfile rules p .number) 0 a)))
 
 -- ---- the writer
 
@@ -228,13 +229,13 @@ writeBefore p room = writeBy (checkBefore p) (scriptBefore p) room
 pub leavesBefore : Profile → List ℕ → List ℕ
 leavesBefore p out = leavesBy (checkBefore p) (scriptBefore p) out
 
-pub write-before : (p : Profile) (room : ℕ) → OneLine (p .field) → writeAnswer p room ≡ writeBefore p room
+pub write-before : (rules : Ruleset) (p : Profile) (room : ℕ) → OneLine (p .field) → writeAnswer rules p room ≡ writeBefore p room
 unfolding writeAnswer writeBefore
-write-before p room h = rw (check-before p h, script-before p h)
+write-before rules p room h = rw (check-before rules p h, script-before p h)
 
-pub leaves-before : (p : Profile) (out : List ℕ) → OneLine (p .field) → writeLeaves p out ≡ leavesBefore p out
+pub leaves-before : (rules : Ruleset) (p : Profile) (out : List ℕ) → OneLine (p .field) → writeLeaves rules p out ≡ leavesBefore p out
 unfolding writeLeaves leavesBefore
-leaves-before p out h = rw (check-before p h, script-before p h)
+leaves-before rules p out h = rw (check-before rules p h, script-before p h)
 
 -- ---- reading
 
@@ -362,10 +363,10 @@ step-alike s p bytes h =
     (other-alike s p h)
 
 -- every script but one that was refused by 4
-pub read-before : (s : List ℕ) → Bytes s → (readBefore s .verdict .number ≡ 4 → ⊥) → readScript s ≡ readBefore s
+pub read-before : (rules : Ruleset) (s : List ℕ) → Bytes s → (readBefore s .verdict .number ≡ 4 → ⊥) → readScript rules s ≡ readBefore s
 unfolding readBefore emptyField
-read-before s bytes n =
-    read-by s
+read-before rules s bytes n =
+    read-by rules s
     ∙ ⊎-elim (λ e. e) (λ e. absurd (n e))
-    (read-agree With (λ n. n ≡ 4) step stepBefore ((λ e. absurd (false≢true e)), λ e. refl) step-alike judge judgeBefore judge-before
+    (read-agree With (λ n. n ≡ 4) step stepBefore ((λ e. absurd (false≢true e)), λ e. refl) step-alike (judge rules) judgeBefore (judge-before rules)
     (λ e. absurd (omega arith)) s bytes)

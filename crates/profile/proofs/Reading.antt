@@ -28,6 +28,7 @@ use Rattle.profile.specs.Script.{mostBytes, bodyOf, Stepped, stop, next,
 use Rattle.profile.specs.declared.Profile.{Profile}
 use Rattle.profile.specs.declared.Verdict.{Verdict}
 use Rattle.profile.specs.declared.ReadAnswer.{ReadAnswer}
+use Rattle.profile.specs.declared.Ruleset.{Ruleset}
 use Rattle.profile.proofs.Laws.{cond-case}
 use Rattle.profile.proofs.Checked.{check-judge, judge-number}
 use Rattle.profile.proofs.Takes.{step-taken}
@@ -106,52 +107,52 @@ records-emptied s skip at p =
 -- ---- the whole read
 
 -- what is judged, or was refused already
-judged-case : (Q : ReadAnswer → Type 0) (r : ReadAnswer) → (r .verdict .number ≡ 0 → Q (readAnswer (judge (r .profile)) (r .profile)))
-    → ((r .verdict .number ≡ 0 → ⊥) → Q r) → Q (judged r)
-judged-case Q r f g =
-    cond-case Q (accepts (r .verdict)) (readAnswer (judge (r .profile)) (r .profile)) r
+judged-case : (rules : Ruleset) (Q : ReadAnswer → Type 0) (r : ReadAnswer) → (r .verdict .number ≡ 0 → Q (readAnswer (judge rules (r .profile)) (r .profile)))
+    → ((r .verdict .number ≡ 0 → ⊥) → Q r) → Q (judged rules r)
+judged-case rules Q r f g =
+    cond-case Q (accepts (r .verdict)) (readAnswer (judge rules (r .profile)) (r .profile)) r
     (λ e. f (eqb-true (r .verdict .number) 0 e))
     (λ e. g (eqb-false (r .verdict .number) 0 e))
 
 -- a judgement of number 0 on a profile in range is the check's
-judged-accepted : (q : Profile) → inRange q ≡ true → judge q .number ≡ 0 → checkProfile (readAnswer (judge q) q .profile) ≡ accepted
-judged-accepted q r e = rw (eq-eqb (judge q .number) 0 e) (check-judge q r ∙ judge-number q e)
+judged-accepted : (rules : Ruleset) (q : Profile) → inRange q ≡ true → judge rules q .number ≡ 0 → checkProfile rules (readAnswer (judge rules q) q .profile) ≡ accepted
+judged-accepted rules q r e = rw (eq-eqb (judge rules q .number) 0 e) (check-judge rules q r ∙ judge-number rules q e)
 
-module _ (s : List ℕ) where
+module _ (rules : Ruleset) (s : List ℕ) where
   -- the answer after the records
   abbrev taken : ReadAnswer
   taken = records 0 0 s emptyProfile
 
   -- refused for its length, refused by a record, or judged
   read-case : (Q : ReadAnswer → Type 0) → Q (readAnswer (refused 1 0) emptyProfile) → ((taken .verdict .number ≡ 0 → ⊥) → Q taken)
-      → (taken .verdict .number ≡ 0 → Q (readAnswer (judge (taken .profile)) (taken .profile))) → Q (readScript s)
+      → (taken .verdict .number ≡ 0 → Q (readAnswer (judge rules (taken .profile)) (taken .profile))) → Q (readScript rules s)
   unfolding readScript
   read-case Q f g h =
-      cond-case Q (leb (length s) mostBytes) (judged taken) (readAnswer (refused 1 0) emptyProfile) (λ e. judged-case Q taken h g) (λ e. f)
+      cond-case Q (leb (length s) mostBytes) (judged rules taken) (readAnswer (refused 1 0) emptyProfile) (λ e. judged-case rules Q taken h g) (λ e. f)
 
-  pub read-sized : Sized (readScript s .profile)
+  pub read-sized : Sized (readScript rules s .profile)
   read-sized =
       let z = records-sized s 0 0 emptyProfile empty-sized in
-      read-case (λ r. Sized (r .profile)) empty-sized (λ e. z) (λ e. answer-case Sized empty-sized (judge (taken .profile)) (taken .profile) z)
+      read-case (λ r. Sized (r .profile)) empty-sized (λ e. z) (λ e. answer-case Sized empty-sized (judge rules (taken .profile)) (taken .profile) z)
 
-  pub read-in : inRange (readScript s .profile) ≡ true
+  pub read-in : inRange (readScript rules s .profile) ≡ true
   read-in =
       let z = records-in s 0 0 emptyProfile empty-in in
       read-case (λ r. inRange (r .profile) ≡ true) empty-in (λ e. z)
-      (λ e. answer-case (λ p. inRange p ≡ true) empty-in (judge (taken .profile)) (taken .profile) z)
+      (λ e. answer-case (λ p. inRange p ≡ true) empty-in (judge rules (taken .profile)) (taken .profile) z)
 
-  pub read-refused : (readScript s .verdict .number ≡ 0 → ⊥) → readScript s .profile ≡ emptyProfile
+  pub read-refused : (readScript rules s .verdict .number ≡ 0 → ⊥) → readScript rules s .profile ≡ emptyProfile
   read-refused =
       read-case Emptied (answer-emptied (refused 1 0) emptyProfile) (λ e. records-emptied s 0 0 emptyProfile)
-      (λ e. answer-emptied (judge (taken .profile)) (taken .profile))
+      (λ e. answer-emptied (judge rules (taken .profile)) (taken .profile))
 
-  pub read-accepted : readScript s .verdict .number ≡ 0 → checkProfile (readScript s .profile) ≡ accepted
+  pub read-accepted : readScript rules s .verdict .number ≡ 0 → checkProfile rules (readScript rules s .profile) ≡ accepted
   read-accepted =
-      read-case (λ r. r .verdict .number ≡ 0 → checkProfile (r .profile) ≡ accepted) (λ e. absurd (omega arith)) (λ n e. absurd (n e))
-      (λ n. judged-accepted (taken .profile) (records-in s 0 0 emptyProfile empty-in))
+      read-case (λ r. r .verdict .number ≡ 0 → checkProfile rules (r .profile) ≡ accepted) (λ e. absurd (omega arith)) (λ n e. absurd (n e))
+      (λ n. judged-accepted rules (taken .profile) (records-in s 0 0 emptyProfile empty-in))
 
   -- no other verdict has the number 0
-  pub read-verdict : readScript s .verdict .number ≡ 0 → readScript s .verdict ≡ accepted
+  pub read-verdict : readScript rules s .verdict .number ≡ 0 → readScript rules s .verdict ≡ accepted
   read-verdict =
       read-case (λ r. r .verdict .number ≡ 0 → r .verdict ≡ accepted) (λ e. absurd (omega arith)) (λ n e. absurd (n e))
-      (λ n. judge-number (taken .profile))
+      (λ n. judge-number rules (taken .profile))

@@ -32,6 +32,7 @@ use Rattle.profile.specs.declared.Profile.{Profile}
 use Rattle.profile.specs.declared.Verdict.{Verdict}
 use Rattle.profile.specs.declared.ReadAnswer.{ReadAnswer}
 use Rattle.profile.specs.declared.Written.{Written}
+use Rattle.profile.specs.declared.Ruleset.{Ruleset}
 use Rattle.profile.proofs.Laws.{by-cases}
 use Rattle.profile.proofs.ByteRange.{bytes-tail}
 use Rattle.profile.proofs.Reading.{answer-case}
@@ -77,9 +78,9 @@ records-by (x ∷ xs) zero at p = front (step (x ∷ xs) p) (λ skip at q. recor
     front (next len q) on = on (afterFirst len) (at + 1) q
 records-by (x ∷ xs) (suc skip) at p = records-by xs skip (at + 1) p
 
-pub read-by : (s : List ℕ) → readScript s ≡ readBy step judge s
+pub read-by : (rules : Ruleset) (s : List ℕ) → readScript rules s ≡ readBy step (judge rules) s
 unfolding readScript readBy
-read-by s = rw (← (records-by s 0 0 emptyProfile))
+read-by rules s = rw (← (records-by s 0 0 emptyProfile))
 
 -- ---- the writer: what it answers and leaves, by the check's verdict and the script
 

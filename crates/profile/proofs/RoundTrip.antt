@@ -48,6 +48,7 @@ use Rattle.profile.specs.Writing.{
 use Rattle.profile.specs.declared.Field.{Field}
 use Rattle.profile.specs.declared.Subck.{Subck}
 use Rattle.profile.specs.declared.Profile.{Profile}
+use Rattle.profile.specs.declared.Ruleset.{Ruleset}
 use Rattle.profile.proofs.Checked.{check-range, check-judge}
 use Rattle.profile.proofs.Sizes.{script-high}
 use Rattle.profile.proofs.Rebuild.{mix, mix-set, mix-pair, mix-same, mix-all}
@@ -213,21 +214,21 @@ pub records-back : (p : Profile) → Sized p → inRange p ≡ true → records 
 records-back p z e = takes-all (writeScript p) emptyProfile p (takes-script p z (items p e))
 
 -- THE ROUND TRIP: reading what was written gives the same profile back
-pub round-trip : (p : Profile) → Sized p → checkProfile p ≡ accepted
-    → readScript (writeScript p) ≡ record { verdict = accepted; profile = p }
+pub round-trip : (rules : Ruleset) (p : Profile) → Sized p → checkProfile rules p ≡ accepted
+    → readScript rules (writeScript p) ≡ record { verdict = accepted; profile = p }
 unfolding readScript
-round-trip p z e =
-    let i = check-range p e in
-    rw (le-leb (length (writeScript p)) mostBytes (omega (arith, script-high p)), records-back p z i, ← check-judge p i, e)
+round-trip rules p z e =
+    let i = check-range rules p e in
+    rw (le-leb (length (writeScript p)) mostBytes (omega (arith, script-high p)), records-back p z i, ← check-judge rules p i, e)
 
 -- what the writer leaves, taken at its length, reads as the profile
-pub write-read : (p : Profile) → Sized p → checkProfile p ≡ accepted → (out : List ℕ) → length (writeScript p) ≤ length out
-    → readScript (take (length (writeScript p)) (writeLeaves p out)) ≡ record { verdict = accepted; profile = p }
+pub write-read : (rules : Ruleset) (p : Profile) → Sized p → checkProfile rules p ≡ accepted → (out : List ℕ) → length (writeScript p) ≤ length out
+    → readScript rules (take (length (writeScript p)) (writeLeaves rules p out)) ≡ record { verdict = accepted; profile = p }
 unfolding writeLeaves
-write-read p z e out h =
+write-read rules p z e out h =
     rw (
       e,
       le-leb (length (writeScript p)) (length out) h,
       take-at (writeScript p) (drop (length (writeScript p)) out) (length (writeScript p)) refl,
     )
-    (round-trip p z e)
+    (round-trip rules p z e)

@@ -88,6 +88,7 @@ use Rattle.profile.specs.Records.{
 use Rattle.profile.specs.declared.Profile.{Profile}
 use Rattle.profile.specs.declared.Verdict.{Verdict}
 use Rattle.profile.specs.declared.ReadAnswer.{ReadAnswer}
+use Rattle.profile.specs.declared.Ruleset.{Ruleset}
 use Rattle.profile.proofs.Laws.{by-cases, or-cases, passed, all-passed, all-chunks, chunks-all}
 use Rattle.profile.proofs.Reflects.{Says, says-le, says-eq, says-and, says-cons}
 use Rattle.profile.proofs.Forms.{says-form, form-allowed, form-told}
@@ -410,65 +411,65 @@ records-fault (x ∷ xs) at n p f = records-stop x xs at n p (fault-stops (x ∷
 refused-empty : (v : Verdict) (p : Profile) → 1 ≤ v .number → readAnswer v p ≡ unread v
 refused-empty v p h = rw (ne-eqb (v .number) 0 (omega arith))
 
-judged-refused : (v : Verdict) → 1 ≤ v .number → judged (unread v) ≡ unread v
-judged-refused v h = rw (ne-eqb (v .number) 0 (omega arith))
+judged-refused : (rules : Ruleset) (v : Verdict) → 1 ≤ v .number → judged rules (unread v) ≡ unread v
+judged-refused rules v h = rw (ne-eqb (v .number) 0 (omega arith))
 
 -- a script that is not too long
-short-read : (s : List ℕ) → length s ≤ mostBytes → readScript s ≡ judged (records 0 0 s emptyProfile)
+short-read : (rules : Ruleset) (s : List ℕ) → length s ≤ mostBytes → readScript rules s ≡ judged rules (records 0 0 s emptyProfile)
 unfolding readScript
-short-read s h = rw (le-leb (length s) mostBytes h)
+short-read rules s h = rw (le-leb (length s) mostBytes h)
 
 -- whole records are judged by the check of what they give
-whole-read : (s : List ℕ) (rs : List Record) → length s ≤ mostBytes → s ≡ scriptOf rs
-    → readScript s ≡ readAnswer (checkProfile (profileOf rs)) (profileOf rs)
-whole-read s rs h e =
+whole-read : (rules : Ruleset) (s : List ℕ) (rs : List Record) → length s ≤ mostBytes → s ≡ scriptOf rs
+    → readScript rules s ≡ readAnswer (checkProfile rules (profileOf rs)) (profileOf rs)
+whole-read rules s rs h e =
     let q = profileOf rs in
     let r : records 0 0 s emptyProfile ≡ readAnswer accepted q = ap (λ (l : List ℕ). records 0 0 l emptyProfile) e ∙ takes-all (scriptOf rs) emptyProfile q (takes-many rs emptyProfile) in
     let i : inRange q ≡ true = subst (λ (x : ReadAnswer). inRange (x .profile) ≡ true) r (records-in s 0 0 emptyProfile empty-in) in
-    short-read s h ∙ ap judged r ∙ ap (λ (v : Verdict). readAnswer v q) (sym (check-judge q i))
+    short-read rules s h ∙ ap (judged rules) r ∙ ap (λ (v : Verdict). readAnswer v q) (sym (check-judge rules q i))
 
 -- there is no other answer
-reads-one : (s : List ℕ) (a : ReadAnswer) → Reads s a → readScript s ≡ a
+reads-one : (rules : Ruleset) (s : List ℕ) (a : ReadAnswer) → Reads rules s a → readScript rules s ≡ a
 unfolding readScript
-reads-one s a (too-long h) = rw (lt-leb (length s) mostBytes h)
-reads-one s a (stopped rs rest n h e f) =
+reads-one rules s a (too-long h) = rw (lt-leb (length s) mostBytes h)
+reads-one rules s a (stopped rs rest n h e f) =
     let at = length (scriptOf rs) in
     let some = fault-some rest n f .1 in
-    short-read s h
-    ∙ ap (λ (l : List ℕ). judged (records 0 0 l emptyProfile)) e
-    ∙ ap judged (records-rest rs rest ∙ records-fault rest at n (profileOf rs) f ∙ refused-empty (refused n at) (profileOf rs) some)
-    ∙ judged-refused (refused n at) some
-reads-one s a (broken rs v h e f) =
-    let some = broken-number (profileOf rs) v f in
-    whole-read s rs h e
-    ∙ ap (λ (w : Verdict). readAnswer w (profileOf rs)) (refused-exactly (profileOf rs) v some .1 f)
+    short-read rules s h
+    ∙ ap (λ (l : List ℕ). judged rules (records 0 0 l emptyProfile)) e
+    ∙ ap (judged rules) (records-rest rs rest ∙ records-fault rest at n (profileOf rs) f ∙ refused-empty (refused n at) (profileOf rs) some)
+    ∙ judged-refused rules (refused n at) some
+reads-one rules s a (broken rs v h e f) =
+    let some = broken-number rules (profileOf rs) v f in
+    whole-read rules s rs h e
+    ∙ ap (λ (w : Verdict). readAnswer w (profileOf rs)) (refused-exactly rules (profileOf rs) v some .1 f)
     ∙ refused-empty v (profileOf rs) some
-reads-one s a (obeyed rs h e f) =
-    whole-read s rs h e ∙ ap (λ (v : Verdict). readAnswer v (profileOf rs)) (accepted-exactly (profileOf rs) .1 f)
+reads-one rules s a (obeyed rs h e f) =
+    whole-read rules s rs h e ∙ ap (λ (v : Verdict). readAnswer v (profileOf rs)) (accepted-exactly rules (profileOf rs) .1 f)
 
 -- there is an answer
-reads-whole : (s : List ℕ) (rs : List Record) → length s ≤ mostBytes → s ≡ scriptOf rs → Judged (profileOf rs) (checkProfile (profileOf rs))
-    → (a : ReadAnswer) × Reads s a
-reads-whole s rs h e (inl w) = (taken (profileOf rs), obeyed rs h e (w .0))
-reads-whole s rs h e (inr w) =
-    let v = checkProfile (profileOf rs) in
+reads-whole : (rules : Ruleset) (s : List ℕ) (rs : List Record) → length s ≤ mostBytes → s ≡ scriptOf rs → Judged rules (profileOf rs) (checkProfile rules (profileOf rs))
+    → (a : ReadAnswer) × Reads rules s a
+reads-whole rules s rs h e (inl w) = (taken (profileOf rs), obeyed rs h e (w .0))
+reads-whole rules s rs h e (inr w) =
+    let v = checkProfile rules (profileOf rs) in
     (unread v, broken rs v h e w)
 
-reads-end : (s : List ℕ) → length s ≤ mostBytes → (w : Ended s) → (w .rest ≡ []) ⊎ Faulty (w .rest) → (a : ReadAnswer) × Reads s a
-reads-end s h w (inl z) =
-    reads-whole s (w .all-of) h (w .there ∙ ap (λ (l : List ℕ). scriptOf (w .all-of) ++ l) z ∙ append-nil (scriptOf (w .all-of)))
-    (check-judged (profileOf (w .all-of)))
-reads-end s h w (inr f) = (unread (refused (f .0) (length (scriptOf (w .all-of)))), stopped (w .all-of) (w .rest) (f .0) h (w .there) (f .1))
+reads-end : (rules : Ruleset) (s : List ℕ) → length s ≤ mostBytes → (w : Ended s) → (w .rest ≡ []) ⊎ Faulty (w .rest) → (a : ReadAnswer) × Reads rules s a
+reads-end rules s h w (inl z) =
+    reads-whole rules s (w .all-of) h (w .there ∙ ap (λ (l : List ℕ). scriptOf (w .all-of) ++ l) z ∙ append-nil (scriptOf (w .all-of)))
+    (check-judged rules (profileOf (w .all-of)))
+reads-end rules s h w (inr f) = (unread (refused (f .0) (length (scriptOf (w .all-of)))), stopped (w .all-of) (w .rest) (f .0) h (w .there) (f .1))
 
-reads-some : (s : List ℕ) → Bytes s → (a : ReadAnswer) × Reads s a
-reads-some s b =
+reads-some : (rules : Ruleset) (s : List ℕ) → Bytes s → (a : ReadAnswer) × Reads rules s a
+reads-some rules s b =
     by-cases (leb (length s) mostBytes)
-    (λ h. let w = ended (length s) s (omega arith) b in reads-end s (leb-true (length s) mostBytes h) w (w .ends))
+    (λ h. let w = ended (length s) s (omega arith) b in reads-end rules s (leb-true (length s) mostBytes h) w (w .ends))
     (λ h. (unread (refused 1 0), too-long (leb-false (length s) mostBytes h)))
 
 -- reading answers exactly what the script says: too long; the first fault after whole records; the first broken rule of what the records give; or
 -- that, where none is broken
-pub read-exactly : (s : List ℕ) → Bytes s → (a : ReadAnswer) → (readScript s ≡ a) ↔ Reads s a
-read-exactly s b a =
-    let w = reads-some s b in
-    ((λ e. subst (λ (x : ReadAnswer). Reads s x) (sym (reads-one s (w .0) (w .1)) ∙ e) (w .1)), reads-one s a)
+pub read-exactly : (rules : Ruleset) (s : List ℕ) → Bytes s → (a : ReadAnswer) → (readScript rules s ≡ a) ↔ Reads rules s a
+read-exactly rules s b a =
+    let w = reads-some rules s b in
+    ((λ e. subst (λ (x : ReadAnswer). Reads rules s x) (sym (reads-one rules s (w .0) (w .1)) ∙ e) (w .1)), reads-one rules s a)

@@ -31,6 +31,7 @@ use Rattle.profile.specs.Writing.{
 use Rattle.profile.specs.declared.Sequence.{Sequence}
 use Rattle.profile.specs.declared.Field.{Field}
 use Rattle.profile.specs.declared.Profile.{Profile}
+use Rattle.profile.specs.declared.Ruleset.{Ruleset}
 use Rattle.profile.proofs.Laws.{cond-case, passed, length-chunks, length-chunks-le, chunk-room}
 use Rattle.profile.proofs.Checked.{check-range}
 use Rattle.profile.proofs.Accepted.{accepted-exactly, accepted-field}
@@ -91,21 +92,21 @@ sequence-written ss k h e =
 field-written : (f : Field) → f .present ≡ true → 1 ≤ f .count → 20 ≤ length (fieldChunk f)
 field-written f e h = rw e (omega (arith, length-field f, head-least (hasSecondLine f)))
 
-pub script-low : (p : Profile) → checkProfile p ≡ accepted → 998 ≤ length (writeScript p)
-script-low p e =
+pub script-low : (rules : Ruleset) (p : Profile) → checkProfile rules p ≡ accepted → 998 ≤ length (writeScript p)
+script-low rules p e =
     let t = p .tables in
     let f = p .field in
-    let r = items p (check-range p e) in
-    let h = accepted-field p e in
+    let r = items p (check-range rules p e) in
+    let h = accepted-field rules p e in
     let c = field-count f (field-present f (r .field) h) .0 in
     let g = passed (regionRange (regionAt f 0)) (region-present f 0 (r .regions 0 (omega arith)) c) in
     let k = leb-true (regionAt f 0 .sequence) 9 (g .1 .0) in
     omega (
       arith,
       length-script p,
-      sequence-written (t .sequences) (regionAt f 0 .sequence) (omega arith) (accepted-exactly p .0 e (refused 8 0) .fields .0 .sequence-given 0 refl (omega arith)),
+      sequence-written (t .sequences) (regionAt f 0 .sequence) (omega arith) (accepted-exactly rules p .0 e (refused 8 0) .fields .0 .sequence-given 0 refl (omega arith)),
       field-written f h c,
     )
 
-pub script-length : (p : Profile) → checkProfile p ≡ accepted → (998 ≤ length (writeScript p)) × (length (writeScript p) ≤ longestScript)
-script-length p e = (script-low p e, script-high p)
+pub script-length : (rules : Ruleset) (p : Profile) → checkProfile rules p ≡ accepted → (998 ≤ length (writeScript p)) × (length (writeScript p) ≤ longestScript)
+script-length rules p e = (script-low rules p e, script-high p)

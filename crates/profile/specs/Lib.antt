@@ -1,6 +1,7 @@
 pub mod Lists
 pub mod Bytes
 pub mod Values
+pub mod Versions
 pub mod Layout
 pub mod Patterns
 pub mod Geometry

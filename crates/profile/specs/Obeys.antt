@@ -43,6 +43,7 @@ use Rattle.profile.specs.declared.Tables.{Tables}
 use Rattle.profile.specs.declared.Field.{Field}
 use Rattle.profile.specs.declared.Profile.{Profile}
 use Rattle.profile.specs.declared.Verdict.{Verdict}
+use Rattle.profile.specs.declared.Ruleset.{Ruleset}
 
 -- ---- ranges: what a record can carry; an absent item is all zeros
 
@@ -224,7 +225,7 @@ Suppresses s = s .present ≡ true → (s .toggle1 < s .toggle2) × (1 ≤ s .su
 
 -- the rule of a field that verdict v names holds: a row a number, with the verdicts that name it and what it says there; no other verdict
 -- names anything
-pub record FieldRule (t : Tables) (f : Field) (v : Verdict) : Type 0 where
+pub record FieldRule (rules : Ruleset) (t : Tables) (f : Field) (v : Verdict) : Type 0 where
   pub region-order : (i : ℕ) → v ≡ refused 7 i → i < regionCount f → Starts f i
   pub sequence-given : (i : ℕ) → v ≡ refused 8 i → i < regionCount f → sequenceAt t f i .present ≡ true
   pub pattern-length : (i : ℕ) → v ≡ refused 9 i → i < regionCount f → patternAt t f i .length ≡ 0 → ⊥
@@ -241,10 +242,10 @@ pub record FieldRule (t : Tables) (f : Field) (v : Verdict) : Type 0 where
   pub shutter : (k : ℕ) → v ≡ refused 17 k → k < 2 → shutterOf t k .present ≡ true → Shuts t f (shutterOf t k)
 
 -- the rule of a profile that verdict v names holds
-pub record Rule (p : Profile) (v : Verdict) : Type 0 where
+pub record Rule (rules : Ruleset) (p : Profile) (v : Verdict) : Type 0 where
   pub values : v ≡ refused 5 0 → Ranged p
   pub field-given : v ≡ refused 6 0 → Each (λ f. f .present ≡ true) (fieldsOf p)
-  pub fields : Each (λ f. FieldRule (p .tables) f v) (fieldsOf p)
+  pub fields : Each (λ f. FieldRule rules (p .tables) f v) (fieldsOf p)
 
 -- "then 6; then 7 for all regions; then, region by region, 8 to 13; then 14; 15 by gate; 16; 17 (MSHUT first)": by turn, where 8 to 13 have one,
 -- then by place, then by number; and of 10 "the lowest output first", then its lowest toggle
@@ -265,6 +266,6 @@ abbrev pub Earlier : Verdict → Verdict → Type 0
 Earlier w v = Ahead (rank w) (rank v)
 
 -- the rule that v names is the first that does not hold
-pub record FirstBroken (p : Profile) (v : Verdict) : Type 0 where
-  pub broken : Rule p v → ⊥
-  pub before : (w : Verdict) → Earlier w v → Rule p w
+pub record FirstBroken (rules : Ruleset) (p : Profile) (v : Verdict) : Type 0 where
+  pub broken : Rule rules p v → ⊥
+  pub before : (w : Verdict) → Earlier w v → Rule rules p w

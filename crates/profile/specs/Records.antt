@@ -31,6 +31,7 @@ use Rattle.profile.specs.Script.{
 }
 use Rattle.profile.specs.declared.Profile.{Profile}
 use Rattle.profile.specs.declared.Verdict.{Verdict}
+use Rattle.profile.specs.declared.Ruleset.{Ruleset}
 use Rattle.profile.specs.declared.ReadAnswer.{ReadAnswer}
 
 -- the kinds, and the body lengths of each; a field's by its form, whether it has a second gate line
@@ -129,9 +130,9 @@ abbrev pub taken : Profile → ReadAnswer
 taken p = record { verdict = accepted; profile = p }
 
 -- what reading script s answers: "1; then record by record ..; then 6" and on, by the first broken rule of the profile that its records give
-pub data Reads (s : List ℕ) : ReadAnswer → Type 0 where
-  too-long : mostBytes < length s → Reads s (unread (refused 1 0))
+pub data Reads (rules : Ruleset) (s : List ℕ) : ReadAnswer → Type 0 where
+  too-long : mostBytes < length s → Reads rules s (unread (refused 1 0))
   stopped : (rs : List Record) (rest : List ℕ) (n : ℕ) → length s ≤ mostBytes → s ≡ scriptOf rs ++ rest → Fault rest n
-      → Reads s (unread (refused n (length (scriptOf rs))))
-  broken : (rs : List Record) (v : Verdict) → length s ≤ mostBytes → s ≡ scriptOf rs → FirstBroken (profileOf rs) v → Reads s (unread v)
-  obeyed : (rs : List Record) → length s ≤ mostBytes → s ≡ scriptOf rs → ((v : Verdict) → Rule (profileOf rs) v) → Reads s (taken (profileOf rs))
+      → Reads rules s (unread (refused n (length (scriptOf rs))))
+  broken : (rs : List Record) (v : Verdict) → length s ≤ mostBytes → s ≡ scriptOf rs → FirstBroken rules (profileOf rs) v → Reads rules s (unread v)
+  obeyed : (rs : List Record) → length s ≤ mostBytes → s ≡ scriptOf rs → ((v : Verdict) → Rule rules (profileOf rs) v) → Reads rules s (taken (profileOf rs))

@@ -34,6 +34,7 @@ use Rattle.profile.specs.declared.Tables.{Tables}
 use Rattle.profile.specs.declared.Field.{Field}
 use Rattle.profile.specs.declared.Profile.{Profile}
 use Rattle.profile.specs.declared.Verdict.{Verdict}
+use Rattle.profile.specs.declared.Ruleset.{Ruleset}
 
 -- a rule at a place: what is answered where it does not hold, and whether it does
 pub record Entry : Type 0 where
@@ -191,8 +192,8 @@ abbrev pub shutterEntries : Tables → Field → ℕ → List Entry
 shutterEntries t f k = rule 17 k (shutterRight t f (shutterOf t k)) ∷ []
 
 -- 7 to 17 of a field
-unfoldable pub rulesOf : Tables → Field → List Entry
-rulesOf t f =
+unfoldable pub rulesOf : Ruleset → Tables → Field → List Entry
+rulesOf rules t f =
     chunks (regionCount f) (orderEntries f)
     ++ chunks (regionCount f) (regionEntries t f)
     ++ lineEntries t f
@@ -205,13 +206,13 @@ abbrev pub fieldsOf : Profile → List Field
 fieldsOf p = p .field ∷ []
 
 -- "then 6", for each place; then 7 to 17 of each place's field
-unfoldable pub entriesOf : Profile → List Entry
-entriesOf p = map (λ (f : Field). rule 6 0 (f .present)) (fieldsOf p) ++ flatMap (rulesOf (p .tables)) (fieldsOf p)
+unfoldable pub entriesOf : Ruleset → Profile → List Entry
+entriesOf rules p = map (λ (f : Field). rule 6 0 (f .present)) (fieldsOf p) ++ flatMap (rulesOf rules (p .tables)) (fieldsOf p)
 
 -- what is judged of a profile whose numbers are in range
-unfoldable pub judge : Profile → Verdict
-judge p = firstBroken (entriesOf p)
+unfoldable pub judge : Ruleset → Profile → Verdict
+judge rules p = firstBroken (entriesOf rules p)
 
 -- a profile handed in: 5, then 6 to 17
-unfoldable pub checkProfile : Profile → Verdict
-checkProfile p = cond (inRange p) (judge p) (refused 5 0)
+unfoldable pub checkProfile : Ruleset → Profile → Verdict
+checkProfile rules p = cond (inRange p) (judge rules p) (refused 5 0)

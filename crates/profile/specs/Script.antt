@@ -36,6 +36,7 @@ use Rattle.profile.specs.declared.Shutter.{Shutter}
 use Rattle.profile.specs.declared.Tables.{Tables}
 use Rattle.profile.specs.declared.Profile.{Profile}
 use Rattle.profile.specs.declared.ReadAnswer.{ReadAnswer}
+use Rattle.profile.specs.declared.Ruleset.{Ruleset}
 
 -- the kinds are 1 to 6
 abbrev pub kinds : ℕ
@@ -261,9 +262,9 @@ records zero at (x ∷ xs) p =
 records (suc skip) at (x ∷ xs) p = records skip (at + 1) xs p
 
 -- "then 6; then 7 ..", where the records were taken
-abbrev pub judged : ReadAnswer → ReadAnswer
-judged r = cond (accepts (r .verdict)) (readAnswer (judge (r .profile)) (r .profile)) r
+abbrev pub judged : Ruleset → ReadAnswer → ReadAnswer
+judged rules r = cond (accepts (r .verdict)) (readAnswer (judge rules (r .profile)) (r .profile)) r
 
 -- 1, the length, comes first
-unfoldable pub readScript : List ℕ → ReadAnswer
-readScript s = cond (leb (length s) mostBytes) (judged (records 0 0 s emptyProfile)) (readAnswer (refused 1 0) emptyProfile)
+unfoldable pub readScript : Ruleset → List ℕ → ReadAnswer
+readScript rules s = cond (leb (length s) mostBytes) (judged rules (records 0 0 s emptyProfile)) (readAnswer (refused 1 0) emptyProfile)

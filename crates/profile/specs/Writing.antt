@@ -17,6 +17,7 @@ use Rattle.profile.specs.declared.Subck.{Subck}
 use Rattle.profile.specs.declared.Shutter.{Shutter}
 use Rattle.profile.specs.declared.Profile.{Profile}
 use Rattle.profile.specs.declared.Verdict.{Verdict}
+use Rattle.profile.specs.declared.Ruleset.{Ruleset}
 use Rattle.profile.specs.declared.Written.{Written}
 
 -- "its longest script becomes 1,314 bytes": every item present, two gate lines and seven regions
@@ -112,20 +113,20 @@ writeScript p =
     ++ chunks 2 (shutterChunk (p .tables .shutters))
 
 -- "It refuses what the check refuses, then 18", with the bytes needed
-abbrev pub writeVerdict : Profile → ℕ → Verdict
-writeVerdict p room =
-    cond (accepts (checkProfile p))
+abbrev pub writeVerdict : Ruleset → Profile → ℕ → Verdict
+writeVerdict rules p room =
+    cond (accepts (checkProfile rules p))
     (cond (leb (length (writeScript p)) room) accepted (refused 18 (length (writeScript p))))
-    (checkProfile p)
+    (checkProfile rules p)
 
-unfoldable pub writeAnswer : Profile → ℕ → Written
-writeAnswer p room =
+unfoldable pub writeAnswer : Ruleset → Profile → ℕ → Written
+writeAnswer rules p room =
     record {
-      verdict = writeVerdict p room;
-      length = cond (accepts (writeVerdict p room)) (length (writeScript p)) 0;
+      verdict = writeVerdict rules p room;
+      length = cond (accepts (writeVerdict rules p room)) (length (writeScript p)) 0;
     }
 
 -- what is left in the lent slice: "a refused write .. changes no lent byte .. After success, entries past the used ones keep what they held."
-unfoldable pub writeLeaves : Profile → List ℕ → List ℕ
-writeLeaves p out =
-    cond (accepts (writeVerdict p (length out))) (over (writeScript p) out) out
+unfoldable pub writeLeaves : Ruleset → Profile → List ℕ → List ℕ
+writeLeaves rules p out =
+    cond (accepts (writeVerdict rules p (length out))) (over (writeScript p) out) out

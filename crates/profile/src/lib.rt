@@ -8,6 +8,7 @@ mod ranges;
 mod records;
 mod rules;
 mod values;
+mod versions;
 mod writing;
 
 pub use geometry::end_line;
@@ -31,14 +32,20 @@ pub use patterns::empty_pattern;
 pub use patterns::pattern_of;
 pub use patterns::rows_of;
 pub use records::read;
+pub use records::read_in;
 pub use records::read_records;
 pub use rules::check;
+pub use rules::check_in;
 pub use values::accept;
 pub use values::empty;
 pub use values::mode_number;
 pub use values::mode_of;
 pub use values::refuse;
+pub use versions::NEWEST;
+pub use versions::newest_rules;
+pub use versions::ruleset_of;
 pub use writing::write;
+pub use writing::write_in;
 
 // How the six V outputs run in a region.
 pub enum Mode {
@@ -125,6 +132,11 @@ pub struct Pattern {
     pub resume1: u16,
     pub freeze2: u16,
     pub resume2: u16,
+}
+
+// What a profile is judged by, and its words' version.
+pub struct Ruleset {
+    pub version: u16,
 }
 
 // 0 or the number of a refusal, and its place; for 10 the output, 1 to 6, and its toggle that is out of order, else 0 and 0.

@@ -4,6 +4,7 @@ use crate::Gate;
 use crate::Profile;
 use crate::ReadAnswer;
 use crate::Region;
+use crate::Ruleset;
 use crate::Sequence;
 use crate::Shutter;
 use crate::Subck;
@@ -23,12 +24,14 @@ use crate::rules::judge;
 use crate::values::NONE;
 use crate::values::empty_region;
 use crate::values::mode_of;
+use crate::versions::newest_rules;
 ghost use mathlib.Core.Path.{_≡_};
 ghost use mathlib.Core.Bool.{true, false, cond};
 ghost use Prim.Native.Nat.{_+_, _*_, _<_, _≤_};
 ghost use lib.ListN.{length};
 ghost use Rattle.profile.specs.Bytes.{numberAt, dataAt};
 ghost use Rattle.profile.specs.Values.{none, emptyProfile, setTables, readAnswer};
+ghost use Rattle.profile.specs.Versions.{newestRules};
 ghost use Rattle.profile.specs.Script.{
   headLength,
   regionLength,
@@ -600,8 +603,8 @@ pub fn read_records(script: &[u8]) -> ReadAnswer
 }
 
 // Reads a script: its length (1), its records (2 to 5), then what is judged of the profile (6 to 17).
-pub fn read(script: &[u8]) -> ReadAnswer
-    ensures { λ r. ⌜ r ≡ readScript (now (script .entry)) ⌝ }
+pub fn read_in(rules: Ruleset, script: &[u8]) -> ReadAnswer
+    ensures { λ r. ⌜ r ≡ readScript rules (now (script .entry)) ⌝ }
 {
     if MOST_BYTES < script.len() {
         return make_answer(refuse(1, 0), empty());
@@ -612,5 +615,12 @@ pub fn read(script: &[u8]) -> ReadAnswer
         return taken;
     }
     let profile = taken.profile;
-    make_answer(judge(profile), profile)
+    make_answer(judge(rules, profile), profile)
+}
+
+// The same by the newest rules.
+pub fn read(script: &[u8]) -> ReadAnswer
+    ensures { λ r. ⌜ r ≡ readScript newestRules (now (script .entry)) ⌝ }
+{
+    read_in(newest_rules(), script)
 }

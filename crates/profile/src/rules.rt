@@ -4,6 +4,7 @@ use crate::Gate;
 use crate::Mode;
 use crate::Pattern;
 use crate::Profile;
+use crate::Ruleset;
 use crate::Sequence;
 use crate::Shutter;
 use crate::Subck;
@@ -30,6 +31,7 @@ use crate::ranges::in_range;
 use crate::refuse;
 use crate::values::NONE;
 use crate::values::refuse_toggle;
+use crate::versions::newest_rules;
 ghost use mathlib.Core.Path.{_≡_};
 ghost use mathlib.Core.List.{[], _++_, map};
 ghost use mathlib.Core.Bool.{_&&_};
@@ -39,6 +41,7 @@ ghost use lib.ListN.{getD};
 ghost use Rattle.profile.specs.Lists.{all, chunks};
 ghost use Rattle.profile.specs.Patterns.{used};
 ghost use Rattle.profile.specs.Geometry.{regionCount, gateLines};
+ghost use Rattle.profile.specs.Versions.{newestRules};
 ghost use Rattle.profile.specs.Rules.{
   firstBroken,
   startsRight,
@@ -401,8 +404,8 @@ fn late_verdict(tables: Tables, field: Field) -> Verdict
 }
 
 // 7 to 17: the first broken rule of a field.
-pub(crate) fn rules_verdict(tables: Tables, field: Field) -> Verdict
-    ensures { λ r. ⌜ r ≡ firstBroken (rulesOf tables field) ⌝ }
+pub(crate) fn rules_verdict(rules: Ruleset, tables: Tables, field: Field) -> Verdict
+    ensures { λ r. ⌜ r ≡ firstBroken (rulesOf rules tables field) ⌝ }
 {
     let order = order_verdict(field);
     if order.number != 0 {
@@ -416,23 +419,30 @@ pub(crate) fn rules_verdict(tables: Tables, field: Field) -> Verdict
 }
 
 // 6, then 7 to 17.
-pub(crate) fn judge(profile: Profile) -> Verdict
-    ensures { λ r. ⌜ r ≡ judge profile ⌝ }
+pub(crate) fn judge(rules: Ruleset, profile: Profile) -> Verdict
+    ensures { λ r. ⌜ r ≡ judge rules profile ⌝ }
 {
     let field = profile.field;
     if !field.present {
         return refuse(6, 0);
     }
     let tables = profile.tables;
-    rules_verdict(tables, field)
+    rules_verdict(rules, tables, field)
 }
 
 // Checks a profile handed in: its ranges (5), then 6 to 17.
-pub fn check(profile: Profile) -> Verdict
-    ensures { λ r. ⌜ r ≡ checkProfile profile ⌝ }
+pub fn check_in(rules: Ruleset, profile: Profile) -> Verdict
+    ensures { λ r. ⌜ r ≡ checkProfile rules profile ⌝ }
 {
     if !in_range(profile) {
         return refuse(5, 0);
     }
-    judge(profile)
+    judge(rules, profile)
+}
+
+// The same by the newest rules.
+pub fn check(profile: Profile) -> Verdict
+    ensures { λ r. ⌜ r ≡ checkProfile newestRules profile ⌝ }
+{
+    check_in(newest_rules(), profile)
 }

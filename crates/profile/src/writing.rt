@@ -2,6 +2,7 @@
 use crate::Field;
 use crate::Gate;
 use crate::Profile;
+use crate::Ruleset;
 use crate::Sequence;
 use crate::Shutter;
 use crate::Subck;
@@ -12,8 +13,9 @@ use crate::geometry::region_count;
 use crate::records::REGION;
 use crate::records::head_length;
 use crate::refuse;
-use crate::rules::check;
+use crate::rules::check_in;
 use crate::values::mode_number;
+use crate::versions::newest_rules;
 ghost use mathlib.Core.Path.{_≡_};
 ghost use mathlib.Core.Bool.{cond};
 ghost use mathlib.Core.List.{[], _∷_, _++_};
@@ -23,6 +25,7 @@ ghost use lib.Seq.{sets};
 ghost use Rattle.profile.specs.Lists.{chunks, over};
 ghost use Rattle.profile.specs.Bytes.{twoBytes};
 ghost use Rattle.profile.specs.Geometry.{hasSecondLine};
+ghost use Rattle.profile.specs.Versions.{newestRules};
 ghost use Rattle.profile.specs.Script.{headLength, regionLength};
 ghost use Rattle.profile.specs.Writing.{
   longestScript,
@@ -380,11 +383,11 @@ fn script_length(profile: Profile) -> usize
 }
 
 // Writes the profile as a script from the slice's first byte on; or says why not, and leaves the slice as it is.
-pub fn write(profile: Profile, out: &mut [u8]) -> Written
-    ensures { λ r. ⌜ r ≡ writeAnswer profile (length (now (out .entry))) ⌝ }
-    ensures { λ _. ⌜ now (out .exit) ≡ writeLeaves profile (now (out .entry)) ⌝ }
+pub fn write_in(rules: Ruleset, profile: Profile, out: &mut [u8]) -> Written
+    ensures { λ r. ⌜ r ≡ writeAnswer rules profile (length (now (out .entry))) ⌝ }
+    ensures { λ _. ⌜ now (out .exit) ≡ writeLeaves rules profile (now (out .entry)) ⌝ }
 {
-    let verdict = check(profile);
+    let verdict = check_in(rules, profile);
     if verdict.number != 0 {
         return Written {
             verdict: verdict,
@@ -403,4 +406,12 @@ pub fn write(profile: Profile, out: &mut [u8]) -> Written
         verdict: accept(),
         length: n,
     }
+}
+
+// The same by the newest rules.
+pub fn write(profile: Profile, out: &mut [u8]) -> Written
+    ensures { λ r. ⌜ r ≡ writeAnswer newestRules profile (length (now (out .entry))) ⌝ }
+    ensures { λ _. ⌜ now (out .exit) ≡ writeLeaves newestRules profile (now (out .entry)) ⌝ }
+{
+    write_in(newest_rules(), profile, out)
 }

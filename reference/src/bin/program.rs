@@ -1,41 +1,11 @@
-//! "The program reads a script from standard input, has room for 4,096 steps,
-//! and prints `steps S pixels P`, then each step as decimal count, space, four
-//! upper-case hex digits; or `refused N P` alone; LF ends each line." At 10 the
-//! output and the toggle follow: `refused 10 P O T`.
+//! "The program reads a script from standard input" and prints its text, by the
+//! newest rules.
 
-use reference::list::{compile, Compiled};
-use reference::refusal::{Refusal, TOGGLE_ORDER};
-use reference::script::read;
+use reference::text::text;
 use std::io::{Read, Write};
-
-const ROOM: usize = 4096;
 
 fn main() -> std::io::Result<()> {
     let mut script = Vec::new();
     std::io::stdin().read_to_end(&mut script)?;
-    std::io::stdout().write_all(answer(&script).as_bytes())
-}
-
-fn answer(script: &[u8]) -> String {
-    let mut counts = [0; ROOM];
-    let mut words = [0; ROOM];
-    match read(script).and_then(|profile| compile(&profile, &mut counts, &mut words)) {
-        Ok(compiled) => steps(compiled, &counts, &words),
-        Err(refusal) => refused(refusal),
-    }
-}
-
-fn refused(Refusal { number, place, output, toggle }: Refusal) -> String {
-    match number {
-        TOGGLE_ORDER => format!("refused {number} {place} {output} {toggle}\n"),
-        _ => format!("refused {number} {place}\n"),
-    }
-}
-
-fn steps(compiled: Compiled, counts: &[u32], words: &[u16]) -> String {
-    let mut out = format!("steps {} pixels {}\n", compiled.steps, compiled.pixels);
-    for i in 0..compiled.steps as usize {
-        out += &format!("{} {:04X}\n", counts[i], words[i]);
-    }
-    out
+    std::io::stdout().write_all(text(&script).as_bytes())
 }

@@ -5,6 +5,7 @@ use crate::list::{compile, steps_needed};
 use crate::make::*;
 use crate::profile::*;
 use crate::script::records;
+use crate::version::NEWEST;
 
 pub fn add(batch: &mut Batch) {
     compile_rooms(batch);
@@ -19,7 +20,7 @@ pub fn add(batch: &mut Batch) {
 fn compile_rooms(batch: &mut Batch) {
     let still = with(&profile_a(), |p| set_toggles(p, 0, 0, UNUSED));
     for p in [profile_a(), profile_rich(), profile_two(), still] {
-        let needed = steps_needed(&p);
+        let needed = steps_needed(NEWEST, &p);
         let rooms = [0, 1, needed.saturating_sub(1), needed, needed + 1, needed + 20];
         for counts in rooms {
             for words in rooms {
@@ -27,20 +28,20 @@ fn compile_rooms(batch: &mut Batch) {
             }
         }
     }
-    // The longest lists, and a need around them: 4095, 4096, 4097 steps.
-    for lines in 1..=3 {
+    // The longest lists, and a need around them: 4094 steps on line 0, and one
+    // for each pixel of line 1.
+    for last in 1..=3 {
         let p = with(&profile_a(), |p| {
-            set_pattern(p, 0, 0, 2, &[[1, 4095, 4095]], NO_PAIRS);
+            set_pattern(p, 0, 0, 2, &[[0, 1, 4095]], NO_PAIRS);
             p.sequences[0] = sequence(0, 4095, 0, 2047, 2047, 0);
-            p.field.lines = lines;
-            p.field.last = 1;
+            p.field.last = last;
         });
-        let p = if lines == 1 { with(&p, |p| p.field.last = 4095) } else { p };
         for room in [4095, 4096] {
             batch.compile(&p, room, room);
         }
         batch.compile(&p, 4096, 4095);
         batch.compile(&p, 4095, 4096);
+        batch.text(short_script(&p));
     }
 }
 

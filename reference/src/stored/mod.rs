@@ -1,5 +1,6 @@
 //! The stored batch: fixed, by hand. Every number of refusal at several places,
-//! every mode, edge and slip that 01 names.
+//! every mode, edge and slip that 01 names. What depends on the rule version is
+//! asked by both.
 
 mod full;
 mod gate_lines;
@@ -7,6 +8,7 @@ mod lists;
 mod ranges;
 mod reading;
 mod rules;
+mod runs;
 mod w;
 mod words;
 
@@ -25,6 +27,7 @@ pub fn cases() -> Vec<Case> {
     rules::add(&mut batch);
     gate_lines::add(&mut batch);
     words::add(&mut batch);
+    runs::add(&mut batch);
     lists::add(&mut batch);
     full::add(&mut batch);
     batch.cases
@@ -47,21 +50,43 @@ impl Batch {
         self.cases.push(Case::Write { profile: *profile, slice: lent_slice(room) });
     }
 
+    fn level_by(&mut self, version: u16, profile: &Profile, line: u64, pixel: u64) {
+        self.cases.push(Case::Level { profile: *profile, version, line, pixel });
+    }
+
     fn level(&mut self, profile: &Profile, line: u64, pixel: u64) {
-        self.cases.push(Case::Level { profile: *profile, line, pixel });
+        for version in VERSIONS {
+            self.level_by(version, profile, line, pixel);
+        }
     }
 
     fn locate(&mut self, profile: &Profile, n: u64) {
         self.cases.push(Case::Locate { profile: *profile, n });
     }
 
-    fn compile(&mut self, profile: &Profile, counts: usize, words: usize) {
+    fn compile_by(&mut self, version: u16, profile: &Profile, counts: usize, words: usize) {
         let (counts, words) = (lent_counts(counts), lent_words(words));
-        self.cases.push(Case::Compile { profile: *profile, counts, words });
+        self.cases.push(Case::Compile { profile: *profile, version, counts, words });
+    }
+
+    fn compile(&mut self, profile: &Profile, counts: usize, words: usize) {
+        for version in VERSIONS {
+            self.compile_by(version, profile, counts, words);
+        }
     }
 
     fn play(&mut self, counts: &[u32], words: &[u16], used: u64, position: u64) {
         self.cases.push(Case::Play { counts: counts.to_vec(), words: words.to_vec(), used, position });
+    }
+
+    fn text_by(&mut self, version: u16, script: Vec<u8>) {
+        self.cases.push(Case::Text { version, script });
+    }
+
+    fn text(&mut self, script: Vec<u8>) {
+        for version in VERSIONS {
+            self.text_by(version, script.clone());
+        }
     }
 
     /// Checked as it is handed in, and read where a script can carry it.
@@ -75,11 +100,18 @@ impl Batch {
     /// Judged, and all its words compiled with two entries to spare.
     fn show(&mut self, profile: &Profile) {
         self.judge(profile);
+        for version in VERSIONS {
+            self.compile_whole(version, profile);
+        }
+    }
+
+    /// All words compiled with two entries to spare.
+    fn compile_whole(&mut self, version: u16, profile: &Profile) {
         let room = match check(profile) {
-            Ok(()) => (steps_needed(profile) + 2).min(ENTRIES_MOST),
+            Ok(()) => (steps_needed(version, profile) + 2).min(ENTRIES_MOST),
             Err(_) => 3,
         };
-        self.compile(profile, room, room);
+        self.compile_by(version, profile, room, room);
     }
 
     /// Every entry point that takes a profile, asked what it would accept.
@@ -89,6 +121,9 @@ impl Batch {
         self.level(profile, 0, 0);
         self.locate(profile, 0);
         self.compile(profile, 40, 41);
+        if check_ranges(profile).is_ok() {
+            self.text(short_script(profile));
+        }
     }
 
     /// Every entry point that takes a profile, asked for what is not there: a

@@ -17,6 +17,7 @@ pub fn add(batch: &mut Batch) {
     field_values(batch);
     replacing(batch);
     every_item(batch);
+    texts(batch);
 }
 
 /// "script over 16,384 bytes"
@@ -299,4 +300,20 @@ fn every_item(batch: &mut Batch) {
     batch.ask_all(&Profile::empty());
     // The least a written script can have: one sequence, one region.
     batch.ask_all(&profile_a());
+}
+
+/// What the program prints: of scripts as long as allowed and longer, and of
+/// those that are refused with 2 to 5 at their front, or after A's script.
+fn texts(batch: &mut Batch) {
+    let full = full_script();
+    let too_long = [full.clone(), vec![0]].concat();
+    for script in [full, too_long, vec![0; SCRIPT_MOST], vec![0xFF; 40_000]] {
+        batch.text(script);
+    }
+    let bad = [vec![4, 0, 1], raw_record(4, 1, &[0; 3]), raw_record(4, 9, &[0; 4]), raw_record(5, 1, &[0; 5]), register(0x78, 1)];
+    for bad in bad {
+        batch.text([script_a(), bad.clone()].concat());
+        batch.text(bad);
+    }
+    batch.text([script_a(), FIELD_A_TWO.to_vec()].concat());
 }

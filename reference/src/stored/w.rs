@@ -10,8 +10,10 @@ pub fn add(batch: &mut Batch) {
     // W2: A without words 2..9: zero is a used toggle.
     batch.show(&with(&a, |p| p.registers[4..20].fill(0)));
     // W3: empty script. W4: script `04 00 01`.
-    batch.read(vec![]);
-    batch.read(vec![4, 0, 1]);
+    for script in [vec![], vec![4, 0, 1]] {
+        batch.read(script.clone());
+        batch.text(script);
+    }
     w5_w6(batch, &a);
     w7_w8(batch, &a);
     w9_w10(batch, &a);
@@ -27,6 +29,7 @@ pub fn add(batch: &mut Batch) {
 
 fn w1(batch: &mut Batch, a: &Profile) {
     batch.read(script_a());
+    batch.text(script_a());
     batch.show(a);
     for line in 0..2 {
         for pixel in 0..10 {

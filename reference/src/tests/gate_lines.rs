@@ -11,7 +11,7 @@ use crate::rules::{line_length, region_of_line, repetitions};
 /// runs over pixels 1 to 6 of lines 0, 2 and 4 and 1 to 3 of lines 1 and 3;
 /// those two have the second pattern from pixel 4 on, and VSG1 low at pixels 2
 /// to 4. SUBCK counts from line 3, the one named first: it is high from pixel 3
-/// of line 4.
+/// of line 4. V2 has one used toggle: its second run ends high by version 2.
 fn five_lines() -> Profile {
     with(&Profile::empty(), |p| {
         set_pattern(p, 0, 0b10, 3, &[[1, 2, 4095], [0, 4095, 4095]], NO_PAIRS);
@@ -29,7 +29,8 @@ fn all_that_acts_on_both_lines() {
     let p = five_lines();
     for line in [0, 2] {
         assert_eq!(output(&p, 0, line, 8), "00100100");
-        assert_eq!(output(&p, 1, line, 8), "10000001");
+        assert_eq!(output(&p, 1, line, 8), "10001111");
+        assert_eq!(output_by(1, &p, 1, line, 8), "10000001");
         assert_eq!(output(&p, 6, line, 8), "11111111");
     }
     for line in [1, 3] {
@@ -39,12 +40,19 @@ fn all_that_acts_on_both_lines() {
         assert_eq!(output(&p, 11, line, 8), "00000000");
     }
     assert_eq!(output(&p, 11, 4, 6), "000111");
-    let no_gate = [(1, 0x07C0), (1, 0x07C1), (2, 0x07C0), (1, 0x07C1), (1, 0x07C0), (2, 0x07C2)];
     let at_gate = [(1, 0x07C0), (1, 0x0781), (1, 0x0780), (1, 0x0783), (4, 0x07C2)];
     let first = [(1, 0x07C2)];
-    let last = [(1, 0x07C0), (1, 0x07C1), (2, 0x0FC0), (1, 0x0FC1)];
-    let all = [&first[..], &no_gate, &at_gate, &no_gate, &at_gate, &last].concat();
-    assert_eq!(steps(&p, all.len()), all);
+    let whole = |no_gate: &[(u32, u16)], last: &[(u32, u16)]| [&first, no_gate, &at_gate, no_gate, &at_gate, last].concat();
+    let by_1 = whole(
+        &[(1, 0x07C0), (1, 0x07C1), (2, 0x07C0), (1, 0x07C1), (1, 0x07C0), (2, 0x07C2)],
+        &[(1, 0x07C0), (1, 0x07C1), (2, 0x0FC0), (1, 0x0FC1)],
+    );
+    let by_2 = whole(
+        &[(1, 0x07C0), (1, 0x07C1), (1, 0x07C0), (1, 0x07C2), (1, 0x07C3), (3, 0x07C2)],
+        &[(1, 0x07C0), (1, 0x07C1), (1, 0x0FC0), (1, 0x0FC2), (1, 0x0FC3)],
+    );
+    assert_eq!(steps_by(1, &p, by_1.len()), by_1);
+    assert_eq!(steps(&p, by_2.len()), by_2);
 }
 
 /// The same two lines named the other way round: only SUBCK moves, to line 2.
@@ -213,7 +221,7 @@ fn asked(cases: &[Case]) -> Asked {
             | Case::Level { profile, .. }
             | Case::Locate { profile, .. }
             | Case::Compile { profile, .. } => asked.profiles.push((*profile, check(profile))),
-            Case::Play { .. } => {}
+            Case::Play { .. } | Case::Text { .. } => {}
         }
     }
     asked

@@ -1,6 +1,7 @@
 -- By the verdict of reading.
 -- Assumes nothing.
 use borrow.Author.Needs.{needs}
+use Rattle.profile.specs.Versions.{newestRules}
 use Rattle.level.specs.Place.{locateAnswer}
 use Rattle.ask.specs.Answer.{locateText}
 use Rattle.ask.proofs.Answering.{short-as, of-refused, of-accepted}
@@ -13,7 +14,7 @@ returns c =
     let i = p .before .before in
     let a = i .before .before .before in
     let s = a .before .before .before in
-    short-as (p .put-verdict-line .ensures) (of-refused (λ p. locateText (locateAnswer p (s .args .n))) _ _ (a .read .ensures) (i .if1 .taken))
+    short-as (p .put-verdict-line .ensures) (of-refused (λ p. locateText (locateAnswer newestRules p (s .args .n))) _ _ (a .read .ensures) (i .if1 .taken))
 
 returns-2 : tie.Need-returns-2
 returns-2 c =
@@ -22,7 +23,7 @@ returns-2 c =
     let a = i .before .before .before in
     let s = a .before .before .before in
     short-as (short-as (p .put-locate-text .ensures) (rw (p .before .locate .ensures)))
-    (of-accepted (λ p. locateText (locateAnswer p (s .args .n))) _ _ (a .read .ensures) (i .if1 .left))
+    (of-accepted (λ p. locateText (locateAnswer newestRules p (s .args .n))) _ _ (a .read .ensures) (i .if1 .left))
 
 pub put-locate-spec : {M : Type 1} → statement M
 put-locate-spec =

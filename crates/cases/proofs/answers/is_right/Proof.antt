@@ -13,5 +13,5 @@ is-right-spec =
     (λ c. rw (c .is-raw .ensures, c .before .match .keys2)) (λ c. rw (c .is-raw2 .ensures, c .before .match .keys3))
     (λ c. rw (c .is-raw3 .ensures, c .before .match .keys4)) (λ c. rw (c .is-raw4 .ensures, c .before .match .keys5))
     (λ c. rw (c .before .is-raw5 .ensures, c .has-lists .ensures, c .before .before .match .keys6))
-    (λ c. rw (c .has-lists2 .ensures, c .before .match .keys7))
-    (λ c. let r = c .match .rest in simp (ne-eqb _ _ (r .0 .0 .0 .0 .0 .0 .1), ne-eqb _ _ (r .0 .0 .0 .0 .0 .1), ne-eqb _ _ (r .0 .0 .0 .0 .1), ne-eqb _ _ (r .0 .0 .0 .1), ne-eqb _ _ (r .0 .0 .1), ne-eqb _ _ (r .0 .1), ne-eqb _ _ (r .1))))
+    (λ c. rw (c .match .keys7)) (λ c. rw (c .has-lists2 .ensures, c .before .match .keys8))
+    (λ c. let r = c .match .rest in simp (ne-eqb _ _ (r .0 .0 .0 .0 .0 .0 .0 .1), ne-eqb _ _ (r .0 .0 .0 .0 .0 .0 .1), ne-eqb _ _ (r .0 .0 .0 .0 .0 .1), ne-eqb _ _ (r .0 .0 .0 .0 .1), ne-eqb _ _ (r .0 .0 .0 .1), ne-eqb _ _ (r .0 .0 .1), ne-eqb _ _ (r .0 .1), ne-eqb _ _ (r .1))))

@@ -18,7 +18,7 @@ returns c =
     let b = o .before .before .before .before in
     let a = b .before .before .before .before .before .before .before in
     puts-as (puts-more (puts-more (puts-more (puts-more (puts-more (b .put-verdict .ensures) (o .put-after .ensures)) (d .put-after2 .ensures)) (e .put-byte .ensures)) (f .put-counts .ensures)) (g .put-words .ensures))
-    (compile-told (a .compile .ensures))
+    (compile-told (a .compile-in .ensures))
 
 pub put-compiled-spec : {M : Type 1} → statement M
 put-compiled-spec =

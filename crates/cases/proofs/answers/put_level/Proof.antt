@@ -8,5 +8,5 @@ use Rattle.cases.proofs.answers.put_level.Tie as tie
 pub put-level-spec : {M : Type 1} → statement M
 put-level-spec =
     tie.close
-    (tie.spec (λ c κs. search needs) (λ c κs. search needs) (λ c κs. search needs) (λ c κs. search needs) (λ c. search needs)
+    (tie.spec (λ c κs. search needs) (λ c κs. search needs) (λ c κs. search needs) (λ c κs. search needs) (λ c κs. search needs) (λ c. search needs)
     (λ c κs. search needs) (λ c. search needs) (λ c. puts-as (c .before .before .put-verdict-with .ensures) (cc)))

@@ -1,26 +1,11 @@
--- Refused by the check; refused where the first pass counts more steps than there is room for; else the second pass fills both lists.
+-- By the newest rules.
 -- Assumes nothing.
-use mathlib.Core.Path.{_≡_}
-use Rattle.profile.specs.Values.{accepted}
-use Rattle.profile.specs.Rules.{checkProfile}
-use Rattle.profile.proofs.Checked.{check-number}
-use Rattle.level.proofs.Places.{refuses, passes}
-use Rattle.holdlist.proofs.FieldLoops.{accepted-fillable}
-use Rattle.holdlist.proofs.Passes.{passes-refused, passes-short, passes-fit}
 use borrow.Author.Needs.{needs}
 use Rattle.holdlist.proofs.compiling.compile.Statement.{statement}
 use Rattle.holdlist.proofs.compiling.compile.Tie as tie
 
--- past the check
-good : (c : tie.Else1) → checkProfile (c .before .before .before .before .before .args .profile) ≡ accepted
-good c = check-number _ (rw (c .before .before .check .ensures) at (c .if1 .left))
+returns : tie.Need-returns
+returns c = let w = c .before .before .before .before in rw (← (w .before .before .before .newest-rules .ensures)) (w .compile-in .ensures)
 
 pub compile-spec : {M : Type 1} → statement M
-compile-spec =
-    tie.close
-    (tie.spec (λ c κs. search needs) (λ c. rw (c .before .before .check .ensures) (search (passes-refused, refuses)))
-    (λ c. search needs) (λ c. search needs) (λ c. search needs) (λ c. search needs) (λ c. search needs) (λ c. search needs)
-    (λ c κs. search (accepted-fillable, good)) (λ c κs. search needs) (λ c κs. search needs) (λ c. search needs)
-    (λ c. search needs) (λ c. rw (c .refuse .ensures) (search (passes-short, passes))) (λ c κs. search (accepted-fillable, good))
-    (λ c κs. search needs) (λ c κs. search needs) (λ c. search needs) (λ c. search needs)
-    (λ c. rw (c .before .accept .ensures, c .pixel-count .ensures) (search (passes-fit, passes))))
+compile-spec = tie.close (tie.spec (λ c κs. search needs) (λ c κs. search needs) (λ c. search needs) (λ c. search needs) returns)

@@ -8,7 +8,7 @@ use Rattle.holdlist.proofs.filling.fill_field.Statement.{statement}
 use Rattle.holdlist.proofs.filling.fill_field.Tie as tie
 
 fill-regions-requires : tie.Need-fill-regions-requires
-fill-regions-requires c κs = let s = c .before .before .before .before in (s .pre, omega (arith, few-pixels _ _ (s .pre)))
+fill-regions-requires c κs = let s = c .before .before .before .before in (s .pre, omega (arith, few-pixels (s .args .version) _ _ (s .pre)))
 
 pub fill-field-spec : {M : Type 1} → statement M
 fill-field-spec =

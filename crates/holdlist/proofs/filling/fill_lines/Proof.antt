@@ -11,11 +11,11 @@ use Rattle.holdlist.proofs.filling.fill_lines.Statement.{statement}
 use Rattle.holdlist.proofs.filling.fill_lines.Tie as tie
 
 abbrev Inv-loop : tie.InvT-loop
-Inv-loop tables field first n counts₀ words₀ held₀ used₀ k₀ counts words held used k =
-    Turns (λ k. wordsOnLine tables field (first + k)) n held₀ counts₀ words₀ k used held counts words
+Inv-loop version tables field first n counts₀ words₀ held₀ used₀ k₀ counts words held used k =
+    Turns (λ k. wordsOnLine version tables field (first + k)) n held₀ counts₀ words₀ k used held counts words
 
 abbrev μ-loop : tie.MeasureT-loop
-μ-loop tables field first n counts₀ words₀ held₀ used₀ k₀ counts words held used k = n - k
+μ-loop version tables field first n counts₀ words₀ held₀ used₀ k₀ counts words held used k = n - k
 
 -- of a turn: its line is one of the field's, its number can be counted on, and its words are those of the field's line
 below : (c : tie.In-loop Inv-loop μ-loop) → let s = c .before .before .before .before in s .args .first + c .before .loop .k < s .args .field .lines
@@ -27,8 +27,8 @@ more c = omega arith
 made :
     (c : tie.After-line-of Inv-loop μ-loop) →
     let s = c .before .before .before .before .before in
-    lineWords (c .line-of .result) (c .line-of .result .length) ≡ wordsOnLine (s .args .tables) (s .args .field) (s .args .first + c .before .before .loop .k)
-made c = made-words _ _ _ (below (c .before)) (c .line-of .ensures)
+    lineWords (c .line-of .result) (c .line-of .result .length) ≡ wordsOnLine (s .args .version) (s .args .tables) (s .args .field) (s .args .first + c .before .before .loop .k)
+made c = made-words _ _ _ _ (below (c .before)) (c .line-of .ensures)
 
 fill-line-requires : tie.Need-fill-line-requires Inv-loop μ-loop
 fill-line-requires c κs =
@@ -36,8 +36,8 @@ fill-line-requires c κs =
     let i = m .before in
     let s = i .before .before .before .before in
     let line = s .args .first + i .before .loop .k in
-    rw (made-length _ _ line (below i) (m .line-of .ensures))
-    (s .pre .1 .0 line, rw (words-length (s .args .tables) (s .args .field) line) at (turn-counted (i .before .loop .inv) (i .loop-test .taken)))
+    rw (made-length _ _ _ line (below i) (m .line-of .ensures))
+    (s .pre .1 .0 line, rw (words-length (s .args .version) (s .args .tables) (s .args .field) line) at (turn-counted (i .before .loop .inv) (i .loop-test .taken)))
 
 pub fill-lines-spec : {M : Type 1} → statement M
 fill-lines-spec =

@@ -36,7 +36,7 @@ returns c =
     let d = r .before .before .before in
     let a = d .before .before .before .before .args in
     let e = starts (d .before) in
-    fills-as (λ j. linesWords (a .tables) (a .field) (e j) (d .end-line .ensures j - e j)) (r .fill-lines .ensures)
+    fills-as (λ j. linesWords (a .version) (a .tables) (a .field) (e j) (d .end-line .ensures j - e j)) (r .fill-lines .ensures)
 
 pub fill-region-spec : {M : Type 1} → statement M
 fill-region-spec =

@@ -12,17 +12,17 @@ use Rattle.holdlist.proofs.filling.fill_regions.Statement.{statement}
 use Rattle.holdlist.proofs.filling.fill_regions.Tie as tie
 
 abbrev Inv-loop : tie.InvT-loop
-Inv-loop tables field counts₀ words₀ n held₀ used₀ i₀ counts words held used i =
-    (n ≡ regionCount field) × (n ≤ 7) × Turns (regionWords tables field) n held₀ counts₀ words₀ i used held counts words
+Inv-loop version tables field counts₀ words₀ n held₀ used₀ i₀ counts words held used i =
+    (n ≡ regionCount field) × (n ≤ 7) × Turns (regionWords version tables field) n held₀ counts₀ words₀ i used held counts words
 
 abbrev μ-loop : tie.MeasureT-loop
-μ-loop tables field counts₀ words₀ n held₀ used₀ i₀ counts words held used i = n - i
+μ-loop version tables field counts₀ words₀ n held₀ used₀ i₀ counts words held used i = n - i
 
 loop-holds : tie.Need-loop-holds Inv-loop μ-loop
 loop-holds c =
     let s = c .before .before .before in
     let r = c .region-count .ensures in
-    (r .0, r .1, turns-start _ _ _ _ _ (rw (r .0, regions-whole _ _ (s .pre .0)) (s .pre .1)) (search needs) (search needs))
+    (r .0, r .1, turns-start _ _ _ _ _ (rw (r .0, regions-whole _ _ _ (s .pre .0)) (s .pre .1)) (search needs) (search needs))
 
 fill-region-requires : tie.Need-fill-region-requires Inv-loop μ-loop
 fill-region-requires c κs =
@@ -37,7 +37,7 @@ returns : tie.Need-returns Inv-loop μ-loop
 returns c =
     let v = c .before .loop .inv in
     let s = c .before .before .before .before .before in
-    fills-as (rw (v .0) (regions-whole _ _ (s .pre .0))) (turns-end (v .2) (c .loop-test .left))
+    fills-as (rw (v .0) (regions-whole _ _ _ (s .pre .0))) (turns-end (v .2) (c .loop-test .left))
 
 pub fill-regions-spec : {M : Type 1} → statement M
 fill-regions-spec =

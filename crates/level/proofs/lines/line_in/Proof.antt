@@ -9,7 +9,7 @@ use Rattle.profile.specs.Patterns.{patternOf}
 use Rattle.profile.specs.Rules.{hasSecond}
 use Rattle.profile.specs.declared.Region.{Region}
 use Rattle.profile.specs.declared.Sequence.{Sequence}
-use Rattle.level.specs.Line.{gatesHere, shutterHere, lineWith}
+use Rattle.level.specs.Line.{gatesHere, shutterHere, originOf, lineWith}
 use borrow.Author.Needs.{needs}
 use Rattle.level.proofs.lines.line_in.Statement.{statement}
 use Rattle.level.proofs.lines.line_in.Tie as tie
@@ -26,7 +26,9 @@ returns c =
     let m1 = m2 .before in
     let n = m1 .before in
     let o = n .before in
-    let h = o .before .before .before .before in
+    let b = o .before in
+    let run = b .before in
+    let h = run .before .before .before .before in
     let l = h .before in
     let p1 = l .before in
     let q = p1 .before .before in
@@ -38,14 +40,14 @@ returns c =
     let s = q .sequence-of .result in
     let here = h .on-gate-line .ensures in
     let long = l .length-in .ensures in
-    let line : _ ≡ lineWith t f (x .line) (x .i) region s (p1 .pattern-of .result) =
+    let line : _ ≡ lineWith (x .version) t f (x .line) (x .i) region s (p1 .pattern-of .result) =
     λ i.
     record {
       length = long i;
-      mode = region .mode;
+      run = run .run-of .ensures i;
       pattern = p1 .pattern-of .result;
       start = s .start;
-      origin = o .origin-of .ensures i;
+      origin = (o .origin-of .ensures ∙ ap (originOf (region .mode)) (b .pixels-before .ensures)) i;
       repetitions = n .repetitions .ensures i;
       mask1 = m1 .mask-of .ensures i;
       mask2 = m2 .mask-of2 .ensures i;
@@ -57,14 +59,14 @@ returns c =
       strobe = (c .shutter-here2 .ensures ∙ ap (shutterHere (getD (t .shutters) 1 emptyShutter) (x .line)) long) i;
     } in
     line
-    ∙ ap (lineWith t f (x .line) (x .i) region s) (p1 .pattern-of .ensures)
-    ∙ ap (λ (s : Sequence). lineWith t f (x .line) (x .i) region s (patternOf (t .registers) (s .pattern))) (q .sequence-of .ensures)
-    ∙ ap (λ (r : Region). lineWith t f (x .line) (x .i) r (sequenceOf t (r .sequence)) (patternOf (t .registers) (sequenceOf t (r .sequence) .pattern))) (r .region-at .ensures)
+    ∙ ap (lineWith (x .version) t f (x .line) (x .i) region s) (p1 .pattern-of .ensures)
+    ∙ ap (λ (s : Sequence). lineWith (x .version) t f (x .line) (x .i) region s (patternOf (t .registers) (s .pattern))) (q .sequence-of .ensures)
+    ∙ ap (λ (r : Region). lineWith (x .version) t f (x .line) (x .i) r (sequenceOf t (r .sequence)) (patternOf (t .registers) (sequenceOf t (r .sequence) .pattern))) (r .region-at .ensures)
 
 pub line-in-spec : {M : Type 1} → statement M
 line-in-spec =
     tie.close
-    (tie.spec (λ c κs. search needs) (λ c κs. search needs) (λ c κs. search needs) (λ c κs. search needs) (λ c κs. search needs)
+    (tie.spec (λ c κs. search needs) (λ c κs. search needs) (λ c κs. search needs) (λ c κs. search needs) (λ c κs. search needs) (λ c κs. search needs) (λ c κs. search needs)
     (λ c κs. search needs) (λ c κs. search needs) (λ c κs. search needs) (λ c κs. search needs) (λ c κs. search needs)
     (λ c κs. search needs) (λ c κs. search needs) (λ c κs. search needs) (λ c. search needs) (λ c κs. search needs)
     (λ c. search needs) (λ c κs. search needs) returns)

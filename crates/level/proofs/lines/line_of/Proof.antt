@@ -12,7 +12,7 @@ unfolding lineOf
 returns-2 c =
     let e = c .before .before in
     let a = e .before .before .args in
-    rw (lt-ltb _ _ (e .if1 .left)) (c .line-in .ensures ∙ ap (lineIn (a .tables) (a .field) (a .line)) (c .before .region-of .ensures .0))
+    rw (lt-ltb _ _ (e .if1 .left)) (c .line-in .ensures ∙ ap (lineIn (a .version) (a .tables) (a .field) (a .line)) (c .before .region-of .ensures .0))
 
 pub line-of-spec : {M : Type 1} → statement M
 line-of-spec =

@@ -17,7 +17,7 @@ use Rattle.level.proofs.outputs.words.Tie as tie
 abbrev Inv-loop : tie.InvT-loop
 Inv-loop r first out₀ t v₀ e₀ i₀ out v e i =
     (length out ≡ length out₀) × (i ≤ length out) × (take i out ≡ chunks i (λ k. readyWord r (first + k) ∷ []))
-    × Keeps 64 (sideAt r (v .second)) (v .kept)
+    × Keeps 64 (sideAt r (v .side)) (v .kept)
     × Keeps 256 (eightAt (r .others)) e
 
 abbrev μ-loop : tie.MeasureT-loop

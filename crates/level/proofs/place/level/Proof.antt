@@ -1,14 +1,11 @@
--- The check's refusal, then 19 where the field has no such pixel, then the word of its line.
+-- By the newest rules.
 -- Assumes nothing.
-use Rattle.profile.proofs.Laws.{tested-no, tested-yes}
-use Rattle.level.proofs.Places.{refuses, passes, level-refused, level-nowhere, level-there}
 use borrow.Author.Needs.{needs}
 use Rattle.level.proofs.place.level.Statement.{statement}
 use Rattle.level.proofs.place.level.Tie as tie
 
+returns : tie.Need-returns
+returns c = rw (← (c .before .newest-rules .ensures)) (c .level-in .ensures)
+
 pub level-spec : {M : Type 1} → statement M
-level-spec =
-    tie.close
-    (tie.spec (λ c κs. search needs) (λ c. search (level-refused, refuses)) (λ c κs. search needs) (λ c κs. search needs)
-    (λ c. search (level-nowhere, passes, tested-no)) (λ c κs. search needs) (λ c κs. search needs) (λ c κs. search needs)
-    (λ c. search (level-there, passes, tested-yes)))
+level-spec = tie.close (tie.spec (λ c κs. search needs) (λ c κs. search needs) returns)

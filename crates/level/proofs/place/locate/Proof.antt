@@ -1,21 +1,11 @@
--- The check's refusal; else the regions are in order, by rule 7, and the loop over them answers.
+-- By the newest rules.
 -- Assumes nothing.
-use mathlib.Core.Path.{_≡_}
-use Rattle.profile.specs.Values.{accepted}
-use Rattle.profile.specs.Rules.{checkProfile}
-use Rattle.profile.proofs.Checked.{check-number}
-use Rattle.profile.proofs.Accepted.{accepted-ordered}
-use Rattle.level.proofs.Places.{refuses, passes, locate-refused, locate-asked}
 use borrow.Author.Needs.{needs}
 use Rattle.level.proofs.place.locate.Statement.{statement}
 use Rattle.level.proofs.place.locate.Tie as tie
 
--- past the check
-good : (c : tie.Else1) → checkProfile (c .before .before .before .args .profile) ≡ accepted
-good c = check-number _ (rw (c .before .before .check .ensures) at (c .if1 .left))
+returns : tie.Need-returns
+returns c = rw (← (c .before .newest-rules .ensures)) (c .locate-in .ensures)
 
 pub locate-spec : {M : Type 1} → statement M
-locate-spec =
-    tie.close
-    (tie.spec (λ c κs. search needs) (λ c. search (locate-refused, refuses)) (λ c κs. search (accepted-ordered, good))
-    (λ c. search (locate-asked, passes)))
+locate-spec = tie.close (tie.spec (λ c κs. search needs) (λ c κs. search needs) returns)
