@@ -42,7 +42,7 @@ startLevel a k = a .levels / 2 ^ k % 2
 abbrev pub usedToggles : (ℕ → Bool) → List ℕ → ℕ
 usedToggles uses row = bit (uses (getD row 0 0)) + bit (uses (getD row 1 0)) + bit (uses (getD row 2 0))
 
--- the used toggles of output k in a run, and how many there are
+-- output k in plain and sweep: how many of its used toggles are at or below t, and how many it has
 abbrev pub runFlips : Pattern → ℕ → ℕ → ℕ
 runFlips a k t = flips (used Plain (a .length)) 1 (rowOf (a .toggles) k) t
 

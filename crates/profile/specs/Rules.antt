@@ -191,7 +191,7 @@ subckEntries t = rule 16 0 (subckRight (t .subck)) ∷ []
 abbrev pub shutterEntries : Tables → Field → ℕ → List Entry
 shutterEntries t f k = rule 17 k (shutterRight t f (shutterOf t k)) ∷ []
 
--- 7 to 17 of a field
+-- 7 to 17 of a field; by every version of the rules the same (proofs/Alike.antt)
 unfoldable pub rulesOf : Ruleset → Tables → Field → List Entry
 rulesOf rules t f =
     chunks (regionCount f) (orderEntries f)
