@@ -47,10 +47,10 @@ plain_lines() {
   others 2000
 }
 
-# as many repetitions as a list has room for: they fill half of the field, two steps each
+# as many repetitions as a list has room for: they fill a third of the field, three steps each
 one_sweep() {
   pattern 0 4095 21 0 1000 3000 0 1000 3000 0 1000 3000 0 1000 3000 0 1000 3000 0 1000 3000
-  sequence 0 0 4095 50 2035 2035 0
+  sequence 0 0 4095 50 1355 1355 0
   field 4095 4095 2000 $none 0 0 $sweep
   others 2
 }
