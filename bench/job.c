@@ -1,24 +1,6 @@
-// The whole job in plain C, written from the rules and not from the Rattle code: reads a script from standard input, checks it, makes the hold list
-// in one pass over the field's pixels, and prints the list or the refusal.
-#include "script.h"
+// The whole job in plain C by pixels, written from the rules and not from the Rattle code: every output by its rule at every pixel, in one pass.
+#include "list.h"
 
-enum { ROOM = 4096 };
-
-// The hold list: steps past the room are only counted.
-
-static uint32_t counts[ROOM];
-static uint16_t words[ROOM];
-static unsigned steps;
-
-static void close_step(uint32_t count, uint16_t word) {
-    if (steps < ROOM) {
-        counts[steps] = count;
-        words[steps] = word;
-    }
-    steps++;
-}
-
-// Makes the list, and gives the number of pixels.
 static uint32_t compile(void) {
     uint32_t pixels = 0, count = 0;
     uint16_t word = 0;
@@ -39,15 +21,4 @@ static uint32_t compile(void) {
         }
     close_step(count, word);
     return pixels;
-}
-
-int main(void) {
-    static uint8_t script[SCRIPT_MOST + 1];
-    read_script(script, fread(script, 1, sizeof script, stdin));
-    check_rules();
-    uint32_t pixels = compile();
-    if (steps > ROOM) refuse(18, steps);
-    printf("steps %u pixels %u\n", steps, (unsigned)pixels);
-    for (unsigned i = 0; i < steps; i++) printf("%u %04X\n", (unsigned)counts[i], words[i]);
-    return 0;
 }

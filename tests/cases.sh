@@ -1,6 +1,6 @@
 #!/usr/bin/env bash
 # Asks the entry points and a second implementation, reference/, the same questions and compares every answer, byte by byte: the stored batch, and
-# a random one with a fresh seed (CASES_SEED=N repeats one). Then breaks one rule in each of five copies of the second implementation, which must be noticed.
+# a random one with a fresh seed (CASES_SEED=N repeats one). Then breaks one rule in each of seven copies of the second implementation, which must be noticed.
 set -u
 cd "$(dirname "$0")/.." || exit 1
 program=$PWD/target/bin/cases
@@ -61,6 +61,8 @@ broken "gates and the second pattern act on the first gate line alone" word.rs '
 
 broken "a field pixel is looked for as if the last line had its sequence's length" word.rs 's/let length = line_length(profile, line);/let length = profile.sequence_of(region_of_line(profile, line)).length as u64;/'
 broken "after the last run the level returns, by version 2 too" word.rs 's/let ended = if running { t \/ length } else { r };/let ended = if running { t \/ length } else { 0 };/'
+broken "the next edge is looked for on the asked line alone" edge.rs 's/for number in line\.\.profile\.field\.lines as u64/for number in line..line + 1/'
+broken "the next edge is told as the pixel before it" edge.rs 's/Ok(Some((number, edge)))/Ok(Some((number, edge.saturating_sub(1))))/'
 
 # a batch at fault: one line on standard error, and no answer
 fault() {
@@ -73,6 +75,10 @@ fault "a payload cut off" 'R\3\0\0\0ab'
 fault "a payload too long" 'R\1\0\1\0'
 fault "a kind that is none" 'X\0\0\0\0'
 fault "a profile too short" 'C\2\0\0\0ab'
+zeros() { printf '\\0%.0s' $(seq "$1"); }
+fault "a next edge without a whole pixel" "E\13\3\0\0$(zeros 779)"
+fault "a next edge with a byte too many" "E\15\3\0\0$(zeros 781)"
+fault "a compile from edge to edge without the counts it says" "J\4\3\0\0$(zeros 764)\1\0\0\0$(zeros 4)"
 fault "a text without a whole version" 'T\1\0\0\0a'
 fault "a text of a script too long" "T\103\234\0\0$(printf %40003s)"
 fault "lists shorter than they say" 'P\30\0\0\0\1\0\0\0\0\0\0\0\0\0\0\0\0\0\0\0\0\0\0\0\0\0\0\0'

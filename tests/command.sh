@@ -73,8 +73,8 @@ rows=$(sed -n '/^## Refusals/,/^## /p' docs/RULES.md | grep -E '^\| [0-9]+ \| [^
 
 # 10 names the output, the toggle and the two numbers that collide, whatever was asked: W2, where toggle 3 of V1 is 0 after 3
 w2='booth: refused 10: region 0 uses pattern 0, in which V1, toggle 3, is 0 and the one before it 3; used toggles come first and rise strictly: .*'
-for question in "" check write level locate; do
-  case $question in level) at=(0 0) ;; locate) at=(0) ;; *) at=() ;; esac
+for question in "" check write level locate edge; do
+  case $question in level | edge) at=(0 0) ;; locate) at=(0) ;; *) at=() ;; esac
   try "10, ${question:-the list}" 1 "refused 10 0 1 3" "$w2" "$booth" ${question:+"$question"} "$work/toggle" "${at[@]}"
 done
 # all numbers different: region 1, sequence 4, pattern 7, V3, toggle 2
@@ -107,22 +107,35 @@ try "check" 0 "accepted" "" "$booth" check examples/base.bin
 try "check, standard input" 0 "accepted" "" "$booth" check - < examples/base.bin
 try "check, refused" 1 "refused 13 0" "$too_far" "$booth" check examples/refused.bin
 try "level, refused" 1 "refused 13 0" "$too_far" "$booth" level examples/refused.bin 0 0
-try "no such pixel" 1 "refused 19 0" "booth: refused 19: the field has no such line or pixel; .*" "$booth" level examples/base.bin 1 10
-try "no such line" 1 "refused 19 0" "booth: refused 19: .*" "$booth" level examples/base.bin 2 0
+try "edge, standard input" 0 "line 0 pixel 3" "" "$booth" edge - 0 0 < examples/base.bin
+try "edge, refused" 1 "refused 13 0" "$too_far" "$booth" edge examples/refused.bin 0 0
+for question in level edge; do
+  try "$question, no such pixel" 1 "refused 19 0" "booth: refused 19: the field has no such line or pixel; .*" "$booth" "$question" examples/base.bin 1 10
+  try "$question, no such line" 1 "refused 19 0" "booth: refused 19: .*" "$booth" "$question" examples/base.bin 2 0
+done
 long=$(printf '9%.0s' {1..200})
 for n in 65536 4294967296 18446744073709551616 18446744073709551617 "$long"; do
-  try "line ${n:0:30}" 1 "refused 19 0" "booth: refused 19: .*" "$booth" level examples/base.bin "$n" 0
-  try "pixel ${n:0:30}" 1 "refused 19 0" "booth: refused 19: .*" "$booth" level examples/base.bin 0 "$n"
+  for question in level edge; do
+    try "$question, line ${n:0:30}" 1 "refused 19 0" "booth: refused 19: .*" "$booth" "$question" examples/base.bin "$n" 0
+    try "$question, pixel ${n:0:30}" 1 "refused 19 0" "booth: refused 19: .*" "$booth" "$question" examples/base.bin 0 "$n"
+  done
   try "field pixel ${n:0:30}" 1 "refused 19 0" "booth: refused 19: .*" "$booth" locate examples/base.bin "$n"
 done
 try "numbers with zeros in front" 0 "word 0FC0" "" "$booth" level examples/base.bin 0000000000000000000000000000000000000000000000000000000000000000000 03
 try "past the last field pixel" 1 "refused 19 0" "booth: refused 19: .*" "$booth" locate examples/base.bin 20
-# every pixel: its place, and its word as the list plays it
+# an edge on the same line, on the next one, and none
+try "edge, the same line" 0 "line 0 pixel 3" "" "$booth" edge examples/base.bin 0 0
+try "edge, a later line" 0 "line 1 pixel 3" "" "$booth" edge examples/base.bin 0 5
+try "edge, none" 0 "none" "" "$booth" edge examples/base.bin 1 9
+# every pixel: its place, its word as the list plays it, and its next edge, where the next step of the list begins
 n=0
 while read -r count word; do
+  next="line $(((n + count) / 10)) pixel $(((n + count) % 10))"
+  [ $((n + count)) -lt 20 ] || next=none
   for ((i = 0; i < count; i++, n++)); do
     try "locate $n" 0 "line $((n / 10)) pixel $((n % 10))" "" "$booth" locate examples/base.bin "$n"
     try "level $n" 0 "word $word" "" "$booth" level examples/base.bin $((n / 10)) $((n % 10))
+    try "edge $n" 0 "$next" "" "$booth" edge examples/base.bin $((n / 10)) $((n % 10))
   done
 done < <("$booth" examples/base.bin | tail -n +2)
 [ "$n" -eq 20 ] || { bad=$((bad + 1)); echo "command: $n pixels of 20 were asked for"; }
@@ -151,9 +164,12 @@ try "two files" 2 "" "booth: usage: booth \[FILE\]" "$booth" a b
 try "check without a file" 2 "" "booth: usage: booth check FILE" "$booth" check
 try "write without a file" 2 "" "booth: usage: booth write FILE" "$booth" write
 try "level without a pixel" 2 "" "booth: usage: booth level FILE LINE PIXEL" "$booth" level examples/base.bin 1
+try "edge without a pixel" 2 "" "booth: usage: booth edge FILE LINE PIXEL" "$booth" edge examples/base.bin 1
+try "edge with a number too many" 2 "" "booth: usage: booth edge FILE LINE PIXEL" "$booth" edge examples/base.bin 1 2 3
 try "locate without a pixel" 2 "" "booth: usage: booth locate FILE PIXEL" "$booth" locate examples/base.bin
 for n in "" x -1 1.5 0x1 " 1"; do
   try "line '$n'" 2 "" "booth: $n: not a line or a pixel; usage: booth level FILE LINE PIXEL" "$booth" level examples/base.bin "$n" 0
+  try "pixel '$n' of a line" 2 "" "booth: $n: not a line or a pixel; usage: booth edge FILE LINE PIXEL" "$booth" edge examples/base.bin 0 "$n"
   try "pixel '$n'" 2 "" "booth: $n: not a line or a pixel; usage: booth locate FILE PIXEL" "$booth" locate examples/base.bin "$n"
 done
 

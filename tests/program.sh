@@ -68,11 +68,16 @@ asks() { { printf '%b' "$1"; cat "${2:-examples/base.bin}"; } | timeout 20 "$ask
 asks 'C\n'; check "ask C" "accepted"
 asks 'L 1 5\n'; check "ask L" "word 0FC1"
 asks 'N 15\n'; check "ask N" "line 1 pixel 5"
+asks 'E 0 0\n'; check "ask E" "line 0 pixel 3"
+asks 'E 0 5\n'; check "ask E, a later line" "line 1 pixel 3"
+asks 'E 1 9\n'; check "ask E, none" "none"
+asks 'E 1 10\n'; check "ask E, no such pixel" "refused 19 0"
+asks 'E 0 0\n' examples/refused.bin; check "ask E of a script that is refused" "refused 13 0"
 asks 'F\n' examples/refused.bin; check "ask F" "124 120 0 0"
 asks 'F\n'; check "ask F of a script that is accepted" "0 0 0 0"
 asks 'C\n' /dev/null; check "ask C of no script" "refused 6 0"
 asks 'C' /dev/null; check "ask C without an end of line" "refused 6 0"
-for line in '' 'X' 'c' 'CC' 'C ' ' C' 'W 1' 'L' 'L 1' 'L 1 ' 'L 1 2 3' 'L  1 2' 'L 1  2' 'L 1 2 ' 'L 1x 2' 'L -1 2' 'L\t1 2' 'L1 2' 'N' 'N ' 'N 1 2' 'N 1\r' 'F 1' 'C\r'; do
+for line in '' 'X' 'c' 'CC' 'C ' ' C' 'W 1' 'L' 'L 1' 'L 1 ' 'L 1 2 3' 'L  1 2' 'L 1  2' 'L 1 2 ' 'L 1x 2' 'L -1 2' 'L\t1 2' 'L1 2' 'N' 'N ' 'N 1 2' 'N 1\r' 'E' 'E 1' 'E 1 2 3' 'e 1 2' 'F 1' 'C\r'; do
   asks "$line\n"; check "ask '$line'" "" "ask: no such question"
 done
 # a line of 123 bytes is a question and leaves room for one byte more than the longest script; a longer line is none

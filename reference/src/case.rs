@@ -1,5 +1,6 @@
 //! The batch format of tests/cases/FORMAT.md: cases as bytes, answers as text.
 
+use crate::edge::next_edge_by;
 use crate::list::{compile_by, play, Compiled};
 use crate::profile::{Profile, NUMBERS};
 use crate::refusal::Refusal;
@@ -21,10 +22,20 @@ pub enum Case {
     Check { profile: Profile },
     Write { profile: Profile, slice: Vec<u8> },
     Level { profile: Profile, version: u16, line: u64, pixel: u64 },
+    NextEdge { profile: Profile, version: u16, line: u64, pixel: u64 },
     Locate { profile: Profile, n: u64 },
-    Compile { profile: Profile, version: u16, counts: Vec<u32>, words: Vec<u16> },
+    Compile { engine: Engine, profile: Profile, version: u16, counts: Vec<u32>, words: Vec<u16> },
     Play { counts: Vec<u32>, words: Vec<u16>, used: u64, position: u64 },
     Text { version: u16, script: Vec<u8> },
+}
+
+/// Which engine a compile asks. "Both engines give the same list, need in
+/// refusal 18 and untouched entries on every profile": one answers for both here.
+#[derive(Clone, Copy, PartialEq, Eq, Debug)]
+pub enum Engine {
+    Plain,
+    /// "jumps from edge to edge"
+    Jumping,
 }
 
 // ---------------------------------------------------------------------------
@@ -37,8 +48,10 @@ impl Case {
             Case::Check { .. } => 'C',
             Case::Write { .. } => 'W',
             Case::Level { .. } => 'L',
+            Case::NextEdge { .. } => 'E',
             Case::Locate { .. } => 'N',
-            Case::Compile { .. } => 'K',
+            Case::Compile { engine: Engine::Plain, .. } => 'K',
+            Case::Compile { engine: Engine::Jumping, .. } => 'J',
             Case::Play { .. } => 'P',
             Case::Text { .. } => 'T',
         }
@@ -63,7 +76,7 @@ impl Case {
                 put_profile(&mut out, profile);
                 out.extend(slice);
             }
-            Case::Level { profile, version, line, pixel } => {
+            Case::Level { profile, version, line, pixel } | Case::NextEdge { profile, version, line, pixel } => {
                 put_profile(&mut out, profile);
                 out.extend(version.to_le_bytes());
                 out.extend(line.to_le_bytes());
@@ -73,7 +86,7 @@ impl Case {
                 put_profile(&mut out, profile);
                 out.extend(n.to_le_bytes());
             }
-            Case::Compile { profile, version, counts, words } => {
+            Case::Compile { engine: _, profile, version, counts, words } => {
                 put_profile(&mut out, profile);
                 out.extend(version.to_le_bytes());
                 put_lengths(&mut out, counts, words);
@@ -139,12 +152,20 @@ fn decode(kind: u8, payload: &[u8]) -> Option<Case> {
         b'R' => Case::Read { script: rest.script()? },
         b'C' => Case::Check { profile: rest.profile()? },
         b'W' => Case::Write { profile: rest.profile()?, slice: rest.all() },
-        b'L' => Case::Level { profile: rest.profile()?, version: rest.u16()?, line: rest.u64()?, pixel: rest.u64()? },
+        b'L' | b'E' => {
+            let (profile, version) = (rest.profile()?, rest.u16()?);
+            let (line, pixel) = (rest.u64()?, rest.u64()?);
+            match kind {
+                b'L' => Case::Level { profile, version, line, pixel },
+                _ => Case::NextEdge { profile, version, line, pixel },
+            }
+        }
         b'N' => Case::Locate { profile: rest.profile()?, n: rest.u64()? },
-        b'K' => {
+        b'K' | b'J' => {
+            let engine = if kind == b'K' { Engine::Plain } else { Engine::Jumping };
             let (profile, version) = (rest.profile()?, rest.u16()?);
             let (counts, words) = (rest.u32()?, rest.u32()?);
-            Case::Compile { profile, version, counts: rest.u32s(counts)?, words: rest.u16s(words)? }
+            Case::Compile { engine, profile, version, counts: rest.u32s(counts)?, words: rest.u16s(words)? }
         }
         b'P' => {
             let (counts, words) = (rest.u32()?, rest.u32()?);
@@ -238,12 +259,18 @@ pub fn answer(k: usize, case: &Case) -> String {
             let word = level_by(*version, profile, *line, *pixel);
             put_line(&mut out, head(&word).into_iter().chain([word.unwrap_or(0) as u64]));
         }
+        Case::NextEdge { profile, version, line, pixel } => {
+            let edge = next_edge_by(*version, profile, *line, *pixel);
+            let found = edge.unwrap_or(None);
+            let (line, pixel) = found.unwrap_or((0, 0));
+            put_line(&mut out, head(&edge).into_iter().chain([found.is_some() as u64, line, pixel]));
+        }
         Case::Locate { profile, n } => {
             let place = locate(profile, *n);
             let (line, pixel) = place.unwrap_or((0, 0));
             put_line(&mut out, head(&place).into_iter().chain([line, pixel]));
         }
-        Case::Compile { profile, version, counts, words } => {
+        Case::Compile { engine: _, profile, version, counts, words } => {
             let (mut counts, mut words) = (counts.clone(), words.clone());
             let compiled = compile_by(*version, profile, &mut counts, &mut words);
             let Compiled { steps, pixels } = compiled.unwrap_or(Compiled { steps: 0, pixels: 0 });

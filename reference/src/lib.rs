@@ -1,9 +1,9 @@
 //! A second implementation of document 01 ("What will be built, and the
 //! rules", the output and toggle that refusal 10 names, a second gate line of
-//! the field, and runs that flip), written from the papers alone. It is there to
-//! be compared with: clear before fast, and total: every entry point has an
-//! answer for any bytes, any numbers in a profile handed in, any line, pixel,
-//! position and rule version.
+//! the field, runs that flip, and the next edge), written from the papers alone.
+//! It is there to be compared with: clear before fast, and total: every entry
+//! point has an answer for any bytes, any numbers in a profile handed in, any
+//! line, pixel, position and rule version.
 //!
 //! - `profile`: the profile and its parts, and their raw order
 //! - `refusal`: the numbers of refusal
@@ -12,12 +12,14 @@
 //! - `script`:  reading and writing
 //! - `version`: the rule versions
 //! - `word`:    the word at a line and pixel, and the place of a field pixel
+//! - `edge`:    the next edge
 //! - `list`:    compiling and playing a hold list
 //! - `text`:    what the program prints
 //! - `case`:    the batch format and the printed answers
-//! - `make`, `stored`, `random`: the batches
+//! - `make`, `stops`, `stored`, `random`: the batches
 
 pub mod case;
+pub mod edge;
 pub mod list;
 pub mod make;
 pub mod profile;
@@ -26,6 +28,7 @@ pub mod ranges;
 pub mod refusal;
 pub mod rules;
 pub mod script;
+pub mod stops;
 pub mod stored;
 pub mod text;
 pub mod version;

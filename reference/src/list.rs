@@ -27,14 +27,18 @@ pub fn compile(profile: &Profile, counts: &mut [u32], words: &mut [u16]) -> Resu
 pub fn compile_by(version: u16, profile: &Profile, counts: &mut [u32], words: &mut [u16]) -> Result<Compiled, Refusal> {
     check(profile)?;
     let room = counts.len().min(words.len());
-    let needed = steps_needed(version, profile);
-    demand(needed <= room, NO_ROOM, needed)?;
-    let mut i = 0;
+    let mut needed = 0;
+    let mut steps = Vec::new();
     for_each_run(version, profile, |count, word| {
-        counts[i] = count;
-        words[i] = word;
-        i += 1;
+        needed += 1;
+        if needed <= room {
+            steps.push((count, word));
+        }
     });
+    demand(needed <= room, NO_ROOM, needed)?;
+    for (i, step) in steps.into_iter().enumerate() {
+        (counts[i], words[i]) = step;
+    }
     Ok(Compiled { steps: needed as u64, pixels: pixels(profile) })
 }
 

@@ -19,7 +19,7 @@ pub const NO_GATE2: u16 = 65_535;
 pub const NUMBERS: usize = 381;
 
 /// "mode 0 plain, 1 sweep, 2 multiplier"
-#[derive(Clone, Copy, PartialEq, Eq, Debug, Default)]
+#[derive(Clone, Copy, PartialEq, Eq, PartialOrd, Ord, Debug, Default)]
 pub enum Mode {
     #[default]
     Plain,

@@ -2,13 +2,15 @@
 //! sometimes one number is moved, bytes are damaged, or a script is cut. What
 //! depends on the rule version names one.
 
-use crate::case::{Case, ENTRIES_MOST, SCRIPT_MOST_IN_A_CASE};
+use crate::case::{Case, Engine, ENTRIES_MOST, SCRIPT_MOST_IN_A_CASE};
 use crate::list::steps_needed;
 use crate::make::*;
 use crate::profile::*;
 use crate::ranges::check_ranges;
 use crate::rules::{check, gate_lines, line_length, region_of_line, region_size, repetitions};
 use crate::script::{records, SCRIPT_MOST};
+use crate::stops::{place_before, stops, Stop};
+use std::collections::BTreeSet;
 
 /// A batch of `count` cases; the same seed gives the same batch.
 pub fn cases(seed: u64, count: u64) -> Vec<Case> {
@@ -18,16 +20,18 @@ pub fn cases(seed: u64, count: u64) -> Vec<Case> {
 
 fn case(rng: &mut Rng) -> Case {
     match rng.below(100) {
-        0..=20 => read_case(rng),
-        21..=33 => Case::Check { profile: any_profile(rng) },
-        34..=39 => {
+        0..=16 => read_case(rng),
+        17..=26 => Case::Check { profile: any_profile(rng) },
+        27..=30 => {
             let profile = any_profile(rng);
             Case::Write { profile, slice: slice(rng, &profile) }
         }
-        40..=57 => level_case(rng),
-        58..=65 => locate_case(rng),
-        66..=84 => compile_case(rng),
-        85..=91 => text_case(rng),
+        31..=47 => level_case(rng),
+        48..=57 => next_edge_case(rng),
+        58..=64 => locate_case(rng),
+        65..=76 => compile_case(rng, Engine::Plain),
+        77..=87 => compile_case(rng, Engine::Jumping),
+        88..=94 => text_case(rng),
         _ => play_case(rng),
     }
 }
@@ -123,10 +127,10 @@ fn size(rng: &mut Rng) -> Size {
 
 /// Seldom full size: compiling one of those takes long.
 fn size_to_compile(rng: &mut Rng) -> Size {
-    match rng.below(50) {
-        0..=15 => TINY,
-        16..=38 => SMALL,
-        39..=48 => MEDIUM,
+    match rng.below(75) {
+        0..=23 => TINY,
+        24..=57 => SMALL,
+        58..=73 => MEDIUM,
         _ => FULL,
     }
 }
@@ -534,13 +538,13 @@ fn number_to_move(rng: &mut Rng, p: &Profile) -> usize {
 
 /// Breaks a few rules of a profile that is accepted. The last goes first: each
 /// edit needs that the rules before its own still hold. 10 is broken most often:
-/// it has an answer for each output and toggle; then 14 and 15, which can be
-/// broken on each gate line.
+/// it has an answer for each output and toggle; then 14, which has most clauses,
+/// and 15: both can be broken on each gate line.
 fn break_rules(rng: &mut Rng, p: &mut Profile, count: u64) {
     let rule = |rng: &mut Rng| match rng.below(10) {
         0 | 1 => 10,
-        2 => 14,
-        3 => 15,
+        2 | 3 => 14,
+        4 => 15,
         _ => rng.between(6, 17),
     };
     let mut rules: Vec<u64> = (0..count).map(|_| rule(rng)).collect();
@@ -919,6 +923,65 @@ fn place_at_a_run(rng: &mut Rng, p: &Profile) -> (u64, u64) {
     }
 }
 
+/// Most often of an accepted profile, around a place where an output can change;
+/// now and then far from one, but not in a field of full size.
+fn next_edge_case(rng: &mut Rng) -> Case {
+    let size = size_to_compile(rng);
+    let profile = match rng.below(10) {
+        0 | 1 if size.lines < FULL.lines => silenced(&valid(rng, size)),
+        0..=6 => valid(rng, size),
+        _ => profile_of(rng, size),
+    };
+    let (line, pixel) = if check(&profile).is_ok() && rng.percent(75) {
+        place_at_a_stop(rng, &profile)
+    } else {
+        any_place(rng, &profile)
+    };
+    Case::NextEdge { profile, version: version(rng), line, pixel }
+}
+
+/// An accepted profile with no toggle in any pattern and one start level for all.
+fn silenced(profile: &Profile) -> Profile {
+    with(profile, |p| {
+        for k in 0..PATTERNS {
+            set_levels(p, k, 0b001011);
+            (0..OUTPUTS).for_each(|output| set_toggles(p, k, output, UNUSED));
+        }
+        for i in 0..p.regions().len() {
+            // "the highest used toggle of all six outputs, 0 if none"
+            if p.field.regions[i].mode == Mode::Multiplier {
+                let s = sequence_mut(p, i);
+                *s = Sequence { odd: 0, even: 0, ..*s };
+            }
+        }
+    })
+}
+
+/// A place where an output can change, or the one before; every kind of such
+/// places that the line has is as frequent.
+fn place_at_a_stop(rng: &mut Rng, p: &Profile) -> (u64, u64) {
+    let line = line_with_stops(rng, p).min(p.field.lines as u64 - 1);
+    let stops = stops(p, line);
+    let kinds: BTreeSet<Stop> = stops.iter().map(|(kind, _)| *kind).collect();
+    let kind = rng.pick(&kinds.into_iter().collect::<Vec<_>>());
+    let pixels: Vec<u64> = stops.iter().filter(|stop| stop.0 == kind).map(|stop| stop.1).collect();
+    let at = (line, rng.pick(&pixels));
+    let before = place_before(p, at).filter(|_| rng.percent(60));
+    before.unwrap_or(at)
+}
+
+/// A line of gates, SUBCK or a shutter, or any.
+fn line_with_stops(rng: &mut Rng, p: &Profile) -> u64 {
+    let shutter = rng.pick(&p.shutters);
+    match rng.below(12) {
+        0 | 1 => a_gate_line(rng, p),
+        2 | 3 => p.field.gate as u64 + p.subck.suppressed as u64 + rng.below(p.subck.count.max(1) as u64),
+        4 => shutter.on_line as u64,
+        5 => shutter.off_line as u64,
+        _ => rng.edgy(0, p.field.lines as u64 - 1),
+    }
+}
+
 /// A line's length, where the profile and the line have one.
 fn length_or_9(p: &Profile, line: u64) -> u64 {
     if check(p).is_ok() && line < p.field.lines as u64 {
@@ -967,7 +1030,7 @@ fn pixels_before(p: &Profile, line: u16) -> u64 {
     (0..line as u64).map(|line| line_length(p, line)).sum()
 }
 
-fn compile_case(rng: &mut Rng) -> Case {
+fn compile_case(rng: &mut Rng, engine: Engine) -> Case {
     let size = size_to_compile(rng);
     let (profile, version) = (profile_of(rng, size), version(rng));
     let accepted = check(&profile).is_ok();
@@ -984,7 +1047,8 @@ fn compile_case(rng: &mut Rng) -> Case {
     };
     let counts = room(rng);
     let words = if rng.percent(40) { counts } else { room(rng) };
-    Case::Compile { profile, version, counts: random_counts(rng, counts), words: random_words(rng, words) }
+    let (counts, words) = (random_counts(rng, counts), random_words(rng, words));
+    Case::Compile { engine, profile, version, counts, words }
 }
 
 fn random_counts(rng: &mut Rng, length: usize) -> Vec<u32> {
@@ -1039,7 +1103,8 @@ mod tests {
         let mut rng = Rng { state: 3 };
         for size in [TINY, SMALL, MEDIUM, FULL] {
             for _ in 0..2000 {
-                assert_eq!(check(&valid(&mut rng, size)), Ok(()));
+                let p = valid(&mut rng, size);
+                assert_eq!((check(&p), check(&silenced(&p))), (Ok(()), Ok(())));
             }
         }
     }

@@ -19,6 +19,7 @@ use Rattle.profile.specs.declared.Written.{Written}
 use Rattle.profile.proofs.Sizes.{script-high}
 use Rattle.level.specs.declared.LevelAnswer.{LevelAnswer}
 use Rattle.level.specs.declared.Located.{Located}
+use Rattle.level.specs.declared.Edge.{Edge}
 use Rattle.holdlist.specs.Text.{valueOf, refusedLine}
 use Rattle.holdlist.proofs.Puts.{puts-none, puts-whole}
 use Rattle.holdlist.proofs.Spelling.{Wide, decimal-length, refused-length}
@@ -27,15 +28,18 @@ use Rattle.ask.specs.Question.{endOf, mostLine, lineOf, scriptOf, letter
 use Rattle.ask.specs.Answer.{
   wordLine,
   placeLine,
+  noneLine,
   figuresLine,
   levelText,
   locateText,
+  edgeText,
   writeText,
   ofProfile,
   checkAsked,
   writeAsked,
   levelAsked,
   locateAsked,
+  edgeAsked,
   figuresAsked,
   answerOf,
   asked,
@@ -92,6 +96,19 @@ module _ (a : Located) where
   pub locate-place : a .verdict .number ≡ 0 → placeLine (a .line) (a .pixel) ≡ locateText a
   unfolding locateText
   locate-place h = rw (eq-eqb (a .verdict .number) 0 h)
+
+module _ (a : Edge) where
+  pub edge-refused : (a .verdict .number ≡ 0 → ⊥) → refusedLine (a .verdict) ≡ edgeText a
+  unfolding edgeText
+  edge-refused h = rw (ne-eqb (a .verdict .number) 0 h)
+
+  pub edge-place : a .verdict .number ≡ 0 → a .found ≡ true → placeLine (a .line) (a .pixel) ≡ edgeText a
+  unfolding edgeText
+  edge-place h f = rw (eq-eqb (a .verdict .number) 0 h, f)
+
+  pub edge-none : a .verdict .number ≡ 0 → a .found ≡ false → noneLine ≡ edgeText a
+  unfolding edgeText
+  edge-none h f = rw (eq-eqb (a .verdict .number) 0 h, f)
 
 -- what was written into room for the longest script
 module _ (p : Profile) (room : List ℕ) (r : Written) (e : r ≡ writeAnswer newestRules p (length room)) (z : longestScript ≡ length room) where
@@ -162,15 +179,22 @@ module _ (line s : List ℕ) (letter : ℕ) (e : letter ≡ letterOf line) where
   unfolding answerOf
   locate-letter h = rw (← e, h)
 
+  pub edge-letter :
+      letter ≡ 69 → cond (withTwo line) (edgeAsked (valueOf (firstOf line)) (valueOf (secondOf line)) s) [] ≡ answerOf line s
+  unfolding answerOf
+  edge-letter h = rw (← e, h)
+
   pub figures-letter : letter ≡ 70 → cond (alone line) (figuresAsked s) [] ≡ answerOf line s
   unfolding answerOf
   figures-letter h = rw (← e, h)
 
   pub no-letter :
-      (letter ≡ 67 → ⊥) → (letter ≡ 87 → ⊥) → (letter ≡ 76 → ⊥) → (letter ≡ 78 → ⊥) → (letter ≡ 70 → ⊥) → [] ≡ answerOf line s
+      (letter ≡ 67 → ⊥) → (letter ≡ 87 → ⊥) → (letter ≡ 76 → ⊥) → (letter ≡ 78 → ⊥) → (letter ≡ 69 → ⊥) → (letter ≡ 70 → ⊥) →
+      [] ≡ answerOf line s
   unfolding answerOf
-  no-letter a b c d f =
-      rw (← e) (rw (ne-eqb letter 67 a, ne-eqb letter 87 b, ne-eqb letter 76 c, ne-eqb letter 78 d, ne-eqb letter 70 f))
+  no-letter a b c d f g =
+      rw (← e)
+      (rw (ne-eqb letter 67 a, ne-eqb letter 87 b, ne-eqb letter 76 c, ne-eqb letter 78 d, ne-eqb letter 69 f, ne-eqb letter 70 g))
 
 -- ---- the whole input
 

@@ -21,7 +21,7 @@ use Rattle.profile.proofs.Laws.{by-cases}
 use Rattle.profile.proofs.Reading.{read-sized, read-accepted, read-verdict}
 use Rattle.profile.proofs.RoundTrip.{round-trip}
 use Rattle.profile.proofs.Sizes.{script-high}
-use Rattle.level.specs.Place.{levelAnswer, locateAnswer}
+use Rattle.level.specs.Place.{levelAnswer, locateAnswer, nextEdgeAnswer}
 use Rattle.holdlist.specs.Text.{valueOf, refusedLine}
 use Rattle.ask.specs.Figures.{noFigures, figuresBy, figuresOf}
 use Rattle.ask.specs.Question.{endOf, mostLine, lineOf, scriptOf, numbersOf, firstOf, secondOf}
@@ -29,6 +29,7 @@ use Rattle.ask.specs.Answer.{
   acceptedLine,
   levelText,
   locateText,
+  edgeText,
   figuresLine,
   writeText,
   ofProfile,
@@ -66,6 +67,7 @@ module _ (line s t : List ℕ) (h : mostBytes < length s) (g : mostBytes < lengt
         same writeText,
         same (λ p. levelText (levelAnswer newestRules p (valueOf (firstOf line)) (valueOf (secondOf line)))),
         same (λ p. locateText (locateAnswer newestRules p (valueOf (numbersOf line)))),
+        same (λ p. edgeText (nextEdgeAnswer newestRules p (valueOf (firstOf line)) (valueOf (secondOf line)))),
         figures-long s h ∙ sym (figures-long t g),
       )
 

@@ -18,8 +18,8 @@ use Rattle.profile.proofs.Checked.{check-range}
 use Rattle.profile.proofs.Accepted.{accepted-field}
 use Rattle.profile.proofs.Lines.{ranged, line-length-most, pixels-most}
 use Rattle.profile.proofs.Reading.{read-accepted}
-use Rattle.level.specs.Place.{levelAnswer, locateAnswer}
-use Rattle.ask.specs.Answer.{ofProfile, levelText, locateText, levelAsked, locateAsked}
+use Rattle.level.specs.Place.{levelAnswer, locateAnswer, nextEdgeAnswer}
+use Rattle.ask.specs.Answer.{ofProfile, levelText, locateText, edgeText, levelAsked, locateAsked, edgeAsked}
 use Rattle.ask.proofs.Asking.{cap}
 
 -- below a bound that the cut is not below, a number is as it was cut
@@ -73,6 +73,14 @@ module _ (p : Profile) (e : checkProfile newestRules p ≡ accepted) where
         (λ t. let s = cut-same t in rw (t, s .0, s .1))
         (λ t. rw t))
 
+    pub edge-cut : nextEdgeAnswer newestRules p (min l cap) (min x cap) ≡ nextEdgeAnswer newestRules p l x
+    unfolding nextEdgeAnswer
+    edge-cut =
+        rw (e, cut-inside)
+        (by-cases inside
+        (λ t. let s = cut-same t in rw (t, s .0, s .1))
+        (λ t. rw t))
+
   pub locate-cut : (n : ℕ) → locateAnswer newestRules p (min n cap) ≡ locateAnswer newestRules p n
   unfolding locateAnswer
   locate-cut n =
@@ -97,6 +105,11 @@ module _ (s : List ℕ) where
   level-asked l x =
       of-same (λ p. levelText (levelAnswer newestRules p (min l cap) (min x cap))) (λ p. levelText (levelAnswer newestRules p l x))
       (λ p e. ap levelText (level-cut p e l x))
+
+  pub edge-asked : (l x : ℕ) → edgeAsked (min l cap) (min x cap) s ≡ edgeAsked l x s
+  edge-asked l x =
+      of-same (λ p. edgeText (nextEdgeAnswer newestRules p (min l cap) (min x cap))) (λ p. edgeText (nextEdgeAnswer newestRules p l x))
+      (λ p e. ap edgeText (edge-cut p e l x))
 
   pub locate-asked : (n : ℕ) → locateAsked (min n cap) s ≡ locateAsked n s
   locate-asked n =

@@ -15,6 +15,7 @@ use holdlist::put_bytes;
 use holdlist::put_decimal;
 use holdlist::put_hex4;
 use holdlist::put_refused_line;
+use level::Edge;
 use level::LevelAnswer;
 use level::Located;
 use profile::Profile;
@@ -27,7 +28,7 @@ ghost use lib.ListN.{length, take};
 ghost use Rattle.profile.specs.Writing.{longestScript};
 ghost use Rattle.holdlist.specs.Text.{valueOf, refusedLine};
 ghost use Rattle.ask.specs.Question.{numbersOf, firstOf, secondOf, alone as aloneLine, withOne, withTwo};
-ghost use Rattle.ask.specs.Answer.{acceptedLine, wordLine, placeLine, figuresLine, levelText, locateText, writeText, checkAsked, writeAsked, levelAsked, locateAsked, figuresAsked, answerOf, asked};
+ghost use Rattle.ask.specs.Answer.{acceptedLine, wordLine, placeLine, noneLine, figuresLine, levelText, locateText, edgeText, writeText, checkAsked, writeAsked, levelAsked, locateAsked, edgeAsked, figuresAsked, answerOf, asked};
 ghost use Rattle.ask.specs.Short.{PutsShort};
 
 // ---- lines
@@ -60,6 +61,12 @@ fn put_place_line(out: &mut [u8], line: u64, pixel: u64) -> usize
     let c = put_bytes(out, b, b" pixel ");
     let d = put_decimal(out, c, pixel);
     put_byte(out, d, 10)
+}
+
+fn put_none_line(out: &mut [u8]) -> usize
+    ensures { λ r. ⌜ PutsShort noneLine (now (out .entry)) r (now (out .exit)) ⌝ }
+{
+    put_bytes(out, 0, b"none\n")
 }
 
 fn put_figures_line(out: &mut [u8], figures: Figures) -> usize
@@ -95,6 +102,19 @@ fn put_locate_text(out: &mut [u8], answer: Located) -> usize
         return put_verdict_line(out, verdict);
     }
     put_place_line(out, answer.line, answer.pixel)
+}
+
+fn put_edge_text(out: &mut [u8], answer: Edge) -> usize
+    ensures { λ r. ⌜ PutsShort (edgeText answer) (now (out .entry)) r (now (out .exit)) ⌝ }
+{
+    let verdict = answer.verdict;
+    if verdict.number != 0 {
+        return put_verdict_line(out, verdict);
+    }
+    if answer.found {
+        return put_place_line(out, answer.line, answer.pixel);
+    }
+    put_none_line(out)
 }
 
 // Room for the longest script.
@@ -165,6 +185,17 @@ fn put_locate(out: &mut [u8], script: &[u8], n: u64) -> usize
     put_locate_text(out, level::locate(answer.profile, n))
 }
 
+fn put_edge(out: &mut [u8], script: &[u8], line: u64, pixel: u64) -> usize
+    ensures { λ r. ⌜ PutsShort (edgeAsked line pixel (now (script .entry))) (now (out .entry)) r (now (out .exit)) ⌝ }
+{
+    let answer = profile::read(script);
+    let verdict = answer.verdict;
+    if verdict.number != 0 {
+        return put_verdict_line(out, verdict);
+    }
+    put_edge_text(out, level::next_edge(answer.profile, line, pixel))
+}
+
 // ---- by the line: nothing where it is not right for its letter
 
 fn ask_check(out: &mut [u8], line: &[u8], script: &[u8]) -> usize
@@ -203,6 +234,15 @@ fn ask_locate(out: &mut [u8], line: &[u8], script: &[u8]) -> usize
     put_locate(out, script, number_of(line))
 }
 
+fn ask_edge(out: &mut [u8], line: &[u8], script: &[u8]) -> usize
+    ensures { λ r. ⌜ PutsShort (cond (withTwo (now (line .entry))) (edgeAsked (valueOf (firstOf (now (line .entry)))) (valueOf (secondOf (now (line .entry)))) (now (script .entry))) []) (now (out .entry)) r (now (out .exit)) ⌝ }
+{
+    if !with_two(line) {
+        return 0;
+    }
+    put_edge(out, script, first_number(line), second_number(line))
+}
+
 fn ask_figures(out: &mut [u8], line: &[u8], script: &[u8]) -> usize
     ensures { λ r. ⌜ PutsShort (cond (aloneLine (now (line .entry))) (figuresAsked (now (script .entry))) []) (now (out .entry)) r (now (out .exit)) ⌝ }
 {
@@ -221,6 +261,7 @@ fn put_question(out: &mut [u8], line: &[u8], script: &[u8]) -> usize
         b'W' => ask_write(out, line, script),
         b'L' => ask_level(out, line, script),
         b'N' => ask_locate(out, line, script),
+        b'E' => ask_edge(out, line, script),
         b'F' => ask_figures(out, line, script),
         _ => 0,
     }

@@ -1,8 +1,10 @@
-// Tests of speed, of what comes from standard input; each writes a checksum. `N`, `L` or `C` and a script: the places or the levels of its last two
+// Tests of speed, of what comes from standard input. `P` or `E` and a script: what booth prints for it, its list made pixel by pixel or from edge to
+// edge (lists.rt). All others write a checksum. `N`, `L` or `C` and a script: the places or the levels of its last two
 // pixels, or its check, asked for again and again (places.rt). Else numbers: 4095 lines of 4095 words, through `fill`, of the line that they tell.
 // The numbers are decimal, with one byte between two of them: the half registers of patterns 0 and 1, as a profile holds them, then
 // length, mode, start, repetitions, mask bits, whether the second pattern acts; acts, level and two toggles of VSG1 to VSG5 and of SUBCK;
 // level, from and to of MSHUT and of STROBE. bench/levels.c does the same by the same rules in C.
+mod lists;
 mod places;
 
 use level::Line;
@@ -158,22 +160,28 @@ fn total(n: [u16; 240]) -> u64 {
     sum
 }
 
-// The checksum of what the first byte asks for.
-fn checksum(text: &[u8]) -> u64 {
+fn print_sum(sum: u64) {
+    io::print_decimal(libc::STDOUT_FILENO, sum);
+    io::write_all(libc::STDOUT_FILENO, b"\n");
+}
+
+// What the first byte asks for.
+fn answer(text: &[u8]) {
     if text.len() == 0 {
-        return 0;
+        return;
     }
     match text[0] {
-        b'N' => places::places_sum(&text[1..]),
-        b'L' => places::levels_sum(&text[1..]),
-        b'C' => places::checks_sum(&text[1..]),
-        _ => total(numbers(text)),
+        b'P' => lists::print_list(false, &text[1..]),
+        b'E' => lists::print_list(true, &text[1..]),
+        b'N' => print_sum(places::places_sum(&text[1..])),
+        b'L' => print_sum(places::levels_sum(&text[1..])),
+        b'C' => print_sum(places::checks_sum(&text[1..])),
+        _ => print_sum(total(numbers(text))),
     }
 }
 
 fn main() {
     let mut text = [0u8; 16385];
     let got = io::read_full(libc::STDIN_FILENO, &mut text);
-    io::print_decimal(libc::STDOUT_FILENO, checksum(&text[..got]));
-    io::write_all(libc::STDOUT_FILENO, b"\n");
+    answer(&text[..got]);
 }

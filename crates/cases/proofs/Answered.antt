@@ -13,13 +13,13 @@ use Rattle.profile.specs.Writing.{writeAnswer, writeLeaves}
 use Rattle.profile.specs.declared.Profile.{Profile}
 use Rattle.profile.specs.declared.Ruleset.{Ruleset}
 use Rattle.profile.specs.declared.Written.{Written}
-use Rattle.level.specs.Place.{levelAnswer, locateAnswer}
+use Rattle.level.specs.Place.{levelAnswer, locateAnswer, nextEdgeAnswer}
 use Rattle.holdlist.specs.Compile.{Compiles}
 use Rattle.holdlist.specs.Play.{playAnswer}
 use Rattle.holdlist.specs.Text.{printed}
 use Rattle.holdlist.specs.declared.Compiled.{Compiled}
 use Rattle.cases.specs.Raw.{eightAt, numbersFrom, foursFrom, rawLength, versionLength, versionedLength, rulesAt, rawProfile}
-use Rattle.cases.specs.Kinds.{verdictText, readText, levelText, locateText, writeText, writeOf, compileText, compileOf, compileLines, lengthAt, playText, playLines, linesOf}
+use Rattle.cases.specs.Kinds.{verdictText, readText, levelText, edgeText, locateText, writeText, writeOf, compileText, compileOf, compileLines, lengthAt, playText, playLines, linesOf}
 
 pub write-told :
     (p : Profile) (s s′ : List ℕ) (r : Written) → r ≡ writeAnswer newestRules p (length s) → s′ ≡ writeLeaves newestRules p s → writeText r s′ ≡ writeOf p s
@@ -74,6 +74,10 @@ module _ (kind : ℕ) (b : List ℕ) where
   unfolding linesOf
   level-kind e = rw e
 
+  pub edge-kind : kind ≡ 69 → edgeText (nextEdgeAnswer (rulesAt b rawLength) (rawProfile b) (eightAt b versionedLength) (eightAt b (versionedLength + 8))) ≡ linesOf kind b
+  unfolding linesOf
+  edge-kind e = rw e
+
   pub locate-kind : kind ≡ 78 → locateText (locateAnswer newestRules (rawProfile b) (eightAt b rawLength)) ≡ linesOf kind b
   unfolding linesOf
   locate-kind e = rw e
@@ -81,6 +85,10 @@ module _ (kind : ℕ) (b : List ℕ) where
   pub compile-kind : kind ≡ 75 → compileLines (lengthAt b versionedLength) (lengthAt b (versionedLength + 4)) b ≡ linesOf kind b
   unfolding linesOf
   compile-kind e = rw e
+
+  pub jump-kind : kind ≡ 74 → compileLines (lengthAt b versionedLength) (lengthAt b (versionedLength + 4)) b ≡ linesOf kind b
+  unfolding linesOf
+  jump-kind e = rw e
 
   pub text-kind : kind ≡ 84 → printed (rulesAt b 0) (drop versionLength b) ≡ linesOf kind b
   unfolding linesOf

@@ -1,4 +1,3 @@
-pub mod Filling
 pub mod Putting
 pub mod Answered
 pub mod Refusing

@@ -2,7 +2,7 @@
 -- Assumes nothing.
 use Prim.Native.Nat.{ℕ, _+_, _*_}
 use mathlib.Core.List.{List, [], _∷_, _++_}
-use mathlib.Core.Bool.{Bool, false, cond, _&&_}
+use mathlib.Core.Bool.{Bool, false, cond, _&&_, _||_}
 use lib.Dec.{ltb, leb, eqb}
 use lib.ListN.{length}
 use Rattle.profile.specs.Lists.{all, chunks}
@@ -31,15 +31,15 @@ listsEnd n from c w = leb c 4096 && (leb w 4096 && eqb n (from + 4 * c + 2 * w))
 abbrev pub hasLists : List ℕ → ℕ → ℕ → Bool
 hasLists b at from = listsEnd (length b) from (fourAt b at) (fourAt b (at + 4))
 
--- R, C, W, L, N, K, T, P
+-- R, C, W, L and E, N, K and J, T, P
 abbrev pub isRight : ℕ → List ℕ → Bool
 isRight kind b =
     cond (eqb kind 82) (leb (length b) 40000)
     (cond (eqb kind 67) (isRaw b && eqb (length b) rawLength)
     (cond (eqb kind 87) (isRaw b)
-    (cond (eqb kind 76) (isRaw b && eqb (length b) (versionedLength + 16))
+    (cond (eqb kind 76 || eqb kind 69) (isRaw b && eqb (length b) (versionedLength + 16))
     (cond (eqb kind 78) (isRaw b && eqb (length b) (rawLength + 8))
-    (cond (eqb kind 75) (isRaw b && hasLists b versionedLength (versionedLength + 8))
+    (cond (eqb kind 75 || eqb kind 74) (isRaw b && hasLists b versionedLength (versionedLength + 8))
     (cond (eqb kind 84) (leb versionLength (length b) && leb (length b) (versionLength + 40000))
     (cond (eqb kind 80) (hasLists b 0 24) false)))))))
 

@@ -2,7 +2,7 @@
 -- Assumes nothing.
 use Prim.Native.Nat.{ℕ, _+_, _*_, min}
 use mathlib.Core.List.{List, [], _∷_, _++_}
-use mathlib.Core.Bool.{cond}
+use mathlib.Core.Bool.{cond, _||_}
 use lib.Dec.{eqb}
 use lib.ListN.{length, drop}
 use Rattle.profile.specs.Versions.{newestRules}
@@ -14,20 +14,21 @@ use Rattle.profile.specs.declared.Verdict.{Verdict}
 use Rattle.profile.specs.declared.Written.{Written}
 use Rattle.profile.specs.declared.Profile.{Profile}
 use Rattle.profile.specs.declared.Ruleset.{Ruleset}
-use Rattle.level.specs.Place.{levelAnswer, locateAnswer}
+use Rattle.level.specs.Place.{levelAnswer, locateAnswer, nextEdgeAnswer}
 use Rattle.level.specs.declared.LevelAnswer.{LevelAnswer}
 use Rattle.level.specs.declared.Located.{Located}
+use Rattle.level.specs.declared.Edge.{Edge}
 use Rattle.holdlist.specs.Compile.{roomOf, compileAnswer, compileCounts, compileWords}
 use Rattle.holdlist.specs.Play.{playAnswer}
 use Rattle.holdlist.specs.Text.{printed}
 use Rattle.holdlist.specs.declared.Compiled.{Compiled}
 use Rattle.holdlist.specs.declared.Played.{Played}
 use Rattle.cases.specs.Raw.{fourAt, eightAt, numbersFrom, foursFrom, rawLength, versionLength, versionedLength, rulesAt, rawProfile}
-use Rattle.cases.specs.Answer.{after, headText, hexLine, joinedLine, profileLine}
+use Rattle.cases.specs.Answer.{after, flagNumber, headText, hexLine, joinedLine, profileLine}
 
 -- ---- lines of an answer
 
--- a verdict alone, with a number, with two
+-- a verdict alone, with a number, with two, with three
 abbrev pub verdictText : Verdict → List ℕ
 verdictText v = headText v ++ (10 ∷ [])
 
@@ -37,11 +38,17 @@ verdictWith v m = headText v ++ after m ++ (10 ∷ [])
 abbrev pub verdictWithTwo : Verdict → ℕ → ℕ → List ℕ
 verdictWithTwo v m n = headText v ++ after m ++ after n ++ (10 ∷ [])
 
+abbrev pub verdictWithThree : Verdict → ℕ → ℕ → ℕ → List ℕ
+verdictWithThree v m n o = headText v ++ after m ++ after n ++ after o ++ (10 ∷ [])
+
 abbrev pub readText : ReadAnswer → List ℕ
 readText a = verdictText (a .verdict) ++ profileLine (a .profile)
 
 abbrev pub levelText : LevelAnswer → List ℕ
 levelText a = verdictWith (a .verdict) (a .word)
+
+abbrev pub edgeText : Edge → List ℕ
+edgeText a = verdictWithThree (a .verdict) (flagNumber (a .found)) (a .line) (a .pixel)
 
 abbrev pub locateText : Located → List ℕ
 locateText a = verdictWithTwo (a .verdict) (a .line) (a .pixel)
@@ -81,13 +88,14 @@ compileLines c w b =
 unfoldable pub playLines : ℕ → ℕ → List ℕ → List ℕ
 playLines c w b = playText (playAnswer (foursFrom b 24 c) (numbersFrom b (24 + 4 * c) w) (eightAt b 8) (eightAt b 16))
 
--- R, C, W, L, N, K, T, P
+-- R, C, W, L, E, N, K and J, T, P
 unfoldable pub linesOf : ℕ → List ℕ → List ℕ
 linesOf kind b =
     cond (eqb kind 82) (readText (readScript newestRules b))
     (cond (eqb kind 67) (verdictText (checkProfile newestRules (rawProfile b)))
     (cond (eqb kind 87) (writeOf (rawProfile b) (drop rawLength b))
     (cond (eqb kind 76) (levelText (levelAnswer (rulesAt b rawLength) (rawProfile b) (eightAt b versionedLength) (eightAt b (versionedLength + 8))))
+    (cond (eqb kind 69) (edgeText (nextEdgeAnswer (rulesAt b rawLength) (rawProfile b) (eightAt b versionedLength) (eightAt b (versionedLength + 8))))
     (cond (eqb kind 78) (locateText (locateAnswer newestRules (rawProfile b) (eightAt b rawLength)))
-    (cond (eqb kind 75) (compileLines (lengthAt b versionedLength) (lengthAt b (versionedLength + 4)) b)
-    (cond (eqb kind 84) (printed (rulesAt b 0) (drop versionLength b)) (playLines (lengthAt b 0) (lengthAt b 4) b)))))))
+    (cond (eqb kind 75 || eqb kind 74) (compileLines (lengthAt b versionedLength) (lengthAt b (versionedLength + 4)) b)
+    (cond (eqb kind 84) (printed (rulesAt b 0) (drop versionLength b)) (playLines (lengthAt b 0) (lengthAt b 4) b))))))))

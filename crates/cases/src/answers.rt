@@ -20,6 +20,7 @@ use crate::text::put_hex_line;
 use crate::text::put_profile;
 use crate::text::put_verdict;
 use crate::text::put_words;
+use holdlist::Compiled;
 use holdlist::put_byte;
 use profile::Profile;
 use profile::Ruleset;
@@ -31,12 +32,13 @@ ghost use lib.ListN.{length, drop};
 ghost use Rattle.profile.specs.Versions.{newestRules};
 ghost use Rattle.profile.specs.Rules.{checkProfile};
 ghost use Rattle.profile.specs.Script.{readScript};
-ghost use Rattle.level.specs.Place.{levelAnswer, locateAnswer};
+ghost use Rattle.level.specs.Place.{levelAnswer, locateAnswer, nextEdgeAnswer};
+ghost use Rattle.holdlist.specs.Compile.{Compiles};
 ghost use Rattle.holdlist.specs.Play.{playAnswer};
 ghost use Rattle.holdlist.specs.Text.{printed, Puts};
 ghost use Rattle.cases.specs.Raw.{eightAt, rawLength, versionLength, versionedLength, rulesAt, rawProfile};
 ghost use Rattle.cases.specs.Answer.{caseLine};
-ghost use Rattle.cases.specs.Kinds.{verdictText, verdictWith, verdictWithTwo, readText, levelText, locateText, writeOf, lengthAt, compileOf, compileLines, playText, playLines, linesOf};
+ghost use Rattle.cases.specs.Kinds.{verdictText, verdictWith, verdictWithTwo, verdictWithThree, readText, levelText, edgeText, locateText, writeOf, lengthAt, compileOf, compileLines, playText, playLines, linesOf};
 ghost use Rattle.cases.specs.Faults.{isRight, answerText};
 
 // Room for 4,096 steps.
@@ -52,7 +54,7 @@ fn word_room() -> [u16; 4096]
     [0; 4096]
 }
 
-// The line of a verdict; with a number; with two.
+// The line of a verdict; with a number; with two; with three.
 fn put_verdict_line(out: &mut [u8], at: usize, verdict: Verdict) -> usize
     ensures { λ r. ⌜ Puts (verdictText verdict) (now (out .entry)) at r (now (out .exit)) ⌝ }
 {
@@ -75,6 +77,23 @@ fn put_verdict_with_two(out: &mut [u8], at: usize, verdict: Verdict, m: u64, n: 
     let b = put_after(out, a, m);
     let c = put_after(out, b, n);
     put_byte(out, c, 10)
+}
+
+fn put_verdict_with_three(
+    out: &mut [u8],
+    at: usize,
+    verdict: Verdict,
+    m: u64,
+    n: u64,
+    o: u64,
+) -> usize
+    ensures { λ r. ⌜ Puts (verdictWithThree verdict m n o) (now (out .entry)) at r (now (out .exit)) ⌝ }
+{
+    let a = put_verdict(out, at, verdict);
+    let b = put_after(out, a, m);
+    let c = put_after(out, b, n);
+    let d = put_after(out, c, o);
+    put_byte(out, d, 10)
 }
 
 fn put_read(out: &mut [u8], at: usize, payload: &[u8]) -> usize
@@ -135,6 +154,17 @@ fn put_level(out: &mut [u8], at: usize, payload: &[u8]) -> usize
     put_verdict_with(out, at, verdict, answer.word as u64)
 }
 
+fn put_edge(out: &mut [u8], at: usize, payload: &[u8]) -> usize
+    ensures { λ r. ⌜ Puts (edgeText (nextEdgeAnswer (rulesAt (now (payload .entry)) rawLength) (rawProfile (now (payload .entry))) (eightAt (now (payload .entry)) versionedLength) (eightAt (now (payload .entry)) (versionedLength + 8)))) (now (out .entry)) at r (now (out .exit)) ⌝ }
+{
+    let line = eight_at(payload, VERSIONED);
+    let pixel = eight_at(payload, VERSIONED_AND_ONE);
+    let profile = raw_profile(payload);
+    let edge = level::next_edge_in(rules_at(payload, RAW), profile, line, pixel);
+    let verdict = edge.verdict;
+    put_verdict_with_three(out, at, verdict, edge.found as u64, edge.line, edge.pixel)
+}
+
 fn put_locate(out: &mut [u8], at: usize, payload: &[u8]) -> usize
     ensures { λ r. ⌜ Puts (locateText (locateAnswer newestRules (rawProfile (now (payload .entry))) (eightAt (now (payload .entry)) rawLength))) (now (out .entry)) at r (now (out .exit)) ⌝ }
 {
@@ -145,9 +175,31 @@ fn put_locate(out: &mut [u8], at: usize, payload: &[u8]) -> usize
     put_verdict_with_two(out, at, verdict, located.line, located.pixel)
 }
 
+// The compile that is asked: pixel by pixel, or from edge to edge. Both have the same answers.
+enum Engine {
+    Pixels,
+    Edges,
+}
+
+fn compile_by(
+    engine: Engine,
+    rules: Ruleset,
+    profile: Profile,
+    counts: &mut [u32],
+    words: &mut [u16],
+) -> Compiled
+    ensures { λ r. ⌜ Compiles rules profile (now (counts .entry)) (now (words .entry)) r (now (counts .exit)) (now (words .exit)) ⌝ }
+{
+    match engine {
+        Engine::Pixels => holdlist::compile_in(rules, profile, counts, words),
+        Engine::Edges => holdlist::compile_edges_in(rules, profile, counts, words),
+    }
+}
+
 fn put_compiled(
     out: &mut [u8],
     at: usize,
+    engine: Engine,
     rules: Ruleset,
     profile: Profile,
     counts: &mut [u32],
@@ -155,7 +207,7 @@ fn put_compiled(
 ) -> usize
     ensures { λ r. ⌜ Puts (compileOf rules profile (now (counts .entry)) (now (words .entry))) (now (out .entry)) at r (now (out .exit)) ⌝ }
 {
-    let compiled = holdlist::compile_in(rules, profile, counts, words);
+    let compiled = compile_by(engine, rules, profile, counts, words);
     let verdict = compiled.verdict;
     let a = put_verdict(out, at, verdict);
     let b = put_after(out, a, compiled.steps as u64);
@@ -169,6 +221,7 @@ fn put_compiled(
 fn compile_into(
     out: &mut [u8],
     at: usize,
+    engine: Engine,
     payload: &[u8],
     counts: &mut [u32],
     words: &mut [u16],
@@ -180,17 +233,17 @@ fn compile_into(
     let rules = rules_at(payload, RAW);
     fill_fours(counts, payload, VERSIONED_AND_ONE);
     fill_numbers(words, payload, VERSIONED_AND_ONE + 4 * counts.len());
-    put_compiled(out, at, rules, profile, counts, words)
+    put_compiled(out, at, engine, rules, profile, counts, words)
 }
 
-fn put_compile(out: &mut [u8], at: usize, payload: &[u8]) -> usize
+fn put_compile(out: &mut [u8], at: usize, engine: Engine, payload: &[u8]) -> usize
     ensures { λ r. ⌜ Puts (compileLines (lengthAt (now (payload .entry)) versionedLength) (lengthAt (now (payload .entry)) (versionedLength + 4)) (now (payload .entry))) (now (out .entry)) at r (now (out .exit)) ⌝ }
 {
     let mut counts = count_room();
     let mut words = word_room();
     let c = length_at(payload, VERSIONED);
     let w = length_at(payload, VERSIONED + 4);
-    compile_into(out, at, payload, &mut counts[..c], &mut words[..w])
+    compile_into(out, at, engine, payload, &mut counts[..c], &mut words[..w])
 }
 
 // Where the script of a text that is asked for begins, or the payload's end where it is shorter.
@@ -265,8 +318,10 @@ fn is_right(kind: u8, payload: &[u8]) -> bool
         b'C' => is_raw(payload) & (payload.len() == RAW),
         b'W' => is_raw(payload),
         b'L' => is_raw(payload) & (payload.len() == VERSIONED_AND_TWO),
+        b'E' => is_raw(payload) & (payload.len() == VERSIONED_AND_TWO),
         b'N' => is_raw(payload) & (payload.len() == RAW_AND_ONE),
         b'K' => is_raw(payload) & has_lists(payload, VERSIONED, VERSIONED_AND_ONE),
+        b'J' => is_raw(payload) & has_lists(payload, VERSIONED, VERSIONED_AND_ONE),
         b'T' => (VERSION <= payload.len()) & (payload.len() <= 40002),
         b'P' => has_lists(payload, 0, 24),
         _ => false,
@@ -281,8 +336,10 @@ fn put_lines(out: &mut [u8], at: usize, kind: u8, payload: &mut [u8]) -> usize
         b'C' => put_check(out, at, payload),
         b'W' => put_write(out, at, payload),
         b'L' => put_level(out, at, payload),
+        b'E' => put_edge(out, at, payload),
         b'N' => put_locate(out, at, payload),
-        b'K' => put_compile(out, at, payload),
+        b'K' => put_compile(out, at, Engine::Pixels, payload),
+        b'J' => put_compile(out, at, Engine::Edges, payload),
         b'T' => put_text(out, at, payload),
         _ => put_play(out, at, payload),
     }

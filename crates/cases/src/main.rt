@@ -27,7 +27,7 @@ fn payload_room() -> [u8; 65536]
     [0; 65536]
 }
 
-// Room for the longest answer: two lines of at most 100 bytes, and a slice of 64,776 bytes in hex.
+// Room for the longest answer: two lines of at most 100 bytes, and a slice of 64,774 bytes in hex.
 fn text_room() -> [u8; 131072]
     ensures { λ r. ⌜ 131072 ≡ length r ⌝ }
 {

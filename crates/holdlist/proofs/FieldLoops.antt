@@ -1,9 +1,10 @@
 -- What the writers of lines and regions want to know of a field that can be written: its lines' words, its regions' first and last lines, and that its
 -- words can be counted. An accepted profile's field is one, by the rules' ranges and rule 7.
 -- Assumes nothing.
-use Prim.Native.Nat.{ℕ, _≤_, _<_}
+use Prim.Native.Nat.{ℕ, _+_, _-_, _≤_, _<_}
 use native.Mathlib.Omega.{arith}
 use mathlib.Core.Path.{_≡_, sym, ap, _∙_}
+use mathlib.Core.List.{List}
 use lib.ListN.{length}
 use Rattle.profile.specs.Lists.{chunks}
 use Rattle.profile.specs.Values.{accepted}
@@ -13,14 +14,16 @@ use Rattle.profile.specs.declared.Tables.{Tables}
 use Rattle.profile.specs.declared.Field.{Field}
 use Rattle.profile.specs.declared.Profile.{Profile}
 use Rattle.profile.specs.declared.Ruleset.{Ruleset}
-use Rattle.profile.proofs.Laws.{length-chunks-le}
+use Rattle.profile.proofs.Laws.{chunks-ext, length-chunks-le}
 use Rattle.profile.proofs.Checked.{check-range}
 use Rattle.profile.proofs.Accepted.{accepted-field, accepted-ordered}
 use Rattle.profile.proofs.Lines.{start-before-end, end-most, ranged, line-length-most}
 use Rattle.level.specs.declared.Line.{Line}
+use Rattle.level.specs.declared.Strip.{Strip}
 use Rattle.level.specs.Line.{lineOf}
+use Rattle.level.specs.Strips.{stripOf, lineOn}
 use Rattle.level.specs.Fieldwords.{lineWords, wordsOnLine, fieldWords}
-use Rattle.level.proofs.Words.{line-words-length, line-of-length, region-words}
+use Rattle.level.proofs.Words.{line-words-length, line-of-length, line-of-region, strip-line, region-words}
 use Rattle.holdlist.specs.Fills.{Fillable, regionWords}
 
 pub accepted-fillable : (rules : Ruleset) (p : Profile) → checkProfile rules p ≡ accepted → Fillable (p .tables) (p .field)
@@ -36,15 +39,35 @@ module _ (t : Tables) (f : Field) (ok : Fillable t f) where
   pub region-ends : (i : ℕ) → endLine f i ≤ f .lines
   region-ends i = end-most f (ok .ordered) i
 
+-- the words of line k of a region, made of what the region's lines share
+abbrev pub stripWords : Strip → ℕ → ℕ → List ℕ
+stripWords s first k = lineWords (lineOn s (first + k)) (lineOn s (first + k) .length)
+
+module _ (version : ℕ) (t : Tables) (f : Field) (ok : Fillable t f) (i : ℕ) (h : i < regionCount f) where
+  -- it is the field's line, and has its length and words
+  module _ (k : ℕ) (l : k < endLine f i - firstLine f i) where
+    made-line : lineOn (stripOf version t f i) (firstLine f i + k) ≡ lineOf version t f (firstLine f i + k)
+    made-line =
+        strip-line version t f i (firstLine f i + k)
+        ∙ sym (line-of-region version t f (firstLine f i + k) (ok .ordered) i h (omega arith) (omega arith))
+
+    made-length : lineOn (stripOf version t f i) (firstLine f i + k) .length ≡ lineLength t f (firstLine f i + k)
+    made-length =
+        ap (λ (l : Line). l .length) made-line
+        ∙ line-of-length version t f (firstLine f i + k) (omega (arith, end-most f (ok .ordered) i))
+
+    made-words : stripWords (stripOf version t f i) (firstLine f i) k ≡ wordsOnLine version t f (firstLine f i + k)
+    made-words = λ j. lineWords (made-line j) (made-length j)
+
+  -- and so is the line made of the parts that code has
+  module _ {first n : ℕ} {strip : Strip} (ef : first ≡ firstLine f i) (en : n ≡ endLine f i - firstLine f i) (es : strip ≡ stripOf version t f i) where
+    pub strip-words : chunks n (stripWords strip first) ≡ regionWords version t f i
+    strip-words = (λ j. chunks (en j) (stripWords (es j) (ef j))) ∙ chunks-ext _ _ _ made-words
+
+    pub strip-length : (k : ℕ) → k < n → lineOn strip (first + k) .length ≤ 4095
+    strip-length k l = rw (ef, es, made-length k (omega (arith, en))) (ok .lengths (firstLine f i + k))
+
 module _ (version : ℕ) (t : Tables) (f : Field) where
-  -- a line that is made has its length, and its words are those of the field's line
-  module _ (line : ℕ) (h : line < f .lines) {made : Line} (e : made ≡ lineOf version t f line) where
-    pub made-length : made .length ≡ lineLength t f line
-    made-length = ap (λ (l : Line). l .length) e ∙ line-of-length version t f line h
-
-    pub made-words : lineWords made (made .length) ≡ wordsOnLine version t f line
-    made-words = ap (lineWords made) made-length ∙ ap (λ (l : Line). lineWords l (lineLength t f line)) e
-
   pub words-length : (line : ℕ) → length (wordsOnLine version t f line) ≡ lineLength t f line
   words-length line = line-words-length (lineOf version t f line) (lineLength t f line)
 

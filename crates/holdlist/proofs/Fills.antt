@@ -3,23 +3,18 @@
 -- Assumes nothing.
 use Prim.Native.Nat.{ℕ, zero, suc, _+_, _-_, _*_, _≤_, _<_, _^_, min}
 use native.Mathlib.Omega.{arith}
-use native.Mathlib.Numerals.{add-one}
-use native.Mathlib.Nat.{zero-min, min-zero, suc-min-suc, add-zero, add-suc}
+use native.Mathlib.Nat.{zero-min, min-zero, suc-min-suc}
 use mathlib.Core.Path.{_≡_, refl, sym, ap, _∙_}
 use mathlib.Core.List.{List, [], _∷_, _++_, map, map-append, append-nil, append-assoc}
-use mathlib.Core.Bool.{true}
-use lib.ListN.{length, getD, take, drop, set, replicate, length-append, length-map, length-drop, length-replicate, drop-of-length-le, replicate-append-replicate}
-use lib.Seq.{length-take-le, take-at, take-all, take-suc}
-use borrow.Author.Tests.{eq-eqb, ne-eqb, eqb-true}
+use lib.ListN.{length, take, drop, set, replicate, length-append, length-map, length-drop, length-replicate, drop-of-length-le}
+use lib.Seq.{take-all}
+use borrow.Author.Tests.{eq-eqb, ne-eqb}
 use borrow.Rule.Slice.PartMut.{midOf, putMid}
 use Rattle.profile.specs.Lists.{chunks, over}
-use Rattle.profile.proofs.Laws.{and-left, and-right, chunks-none, chunks-more, chunk-room}
-use Rattle.level.specs.declared.Line.{Line}
-use Rattle.level.specs.Fieldwords.{lineWords}
-use Rattle.level.proofs.Words.{line-words-length}
+use Rattle.profile.proofs.Laws.{chunks-none, chunks-more, chunk-room}
 use Rattle.holdlist.specs.declared.Step.{Step}
 use Rattle.holdlist.specs.Runs.{none, flush, opened, closed, runs, stepCount, stepWord, stepCounts, stepWords}
-use Rattle.holdlist.specs.Fills.{overFit, Writes, Fills, Alike, same}
+use Rattle.holdlist.specs.Fills.{overFit, Writes, Fills}
 use Rattle.holdlist.proofs.Runs.{step, opened-append, closed-append, run-joins, run-starts, closed-length, opened-count, flush-one}
 
 -- ---- one list over the front of another
@@ -251,48 +246,6 @@ module _ (o : Step) (w n : ℕ) (cs ws : List ℕ) where
       let r = run-starts n w o e (omega arith) in
       record { writes = rw (r .0) l; leaves = sym (r .1) }
 
--- ---- a run of equal words, one more a turn
-
-pub alike-start : (xs : List ℕ) (i : ℕ) → i < length xs → Alike xs (getD xs i 0) i (i + 1)
-alike-start xs i h =
-    let e : i + 1 - i ≡ 1 = omega arith in
-    record { some = omega arith; within = omega arith; grows = rw (e, add-one, take-suc xs i 0) }
-
-pub alike-on : {xs : List ℕ} {w i j : ℕ} → Alike xs w i j → j < length xs → getD xs j 0 ≡ w → Alike xs w i (j + 1)
-alike-on {xs} {w} {i} {j} a h e =
-    let l : i < j = a .some in
-    let k : j + 1 - i ≡ (j - i) + 1 = omega arith in
-    record {
-      some = omega arith;
-      within = omega arith;
-      grows = rw (k, ← replicate-append-replicate (j - i) 1 w, add-one, take-suc xs j 0, e, a .grows, append-assoc);
-    }
-
-pub alike-same : (n : ℕ) {xs : List ℕ} {w i j : ℕ} → Alike xs w i j → j + n ≤ length xs → same n xs j w ≡ true → Alike xs w i (j + n)
-unfolding same
-alike-same zero a h e = rw add-zero a
-alike-same (suc n) {xs} {w} {i} {j} a h e =
-    rw (add-suc j n, ← add-one (j + n))
-    (alike-on
-    (alike-same n a (omega arith) (and-left (same n xs j w) _ e))
-    (omega arith)
-    (eqb-true (getD xs (j + n) 0) w (and-right (same n xs j w) _ e)))
-
--- it is pushed, and closes no more steps than it has words
-pub alike-few :
-    {o h : Step} {xs cs ws cs′ ws′ : List ℕ} {n w i j : ℕ} →
-    Alike xs w i j → Fills o (replicate (j - i) w) cs ws n h cs′ ws′ → n ≤ j - i
-alike-few {w = w} {i = i} {j = j} a f = omega (arith, filling f, length-replicate (j - i) w)
-
--- ---- a line's words by way of a buffer
-
--- the front of a buffer that was lent and filled with a line's words
-pub filled-front :
-    (n : ℕ) (line : Line) (b p : List ℕ) → n ≤ length b → p ≡ lineWords line (length (midOf 0 (n - 0) b)) →
-    midOf 0 (n - 0) (putMid 0 (n - 0) b p) ≡ lineWords line n
-filled-front n line b p h e =
-    let z : n - 0 ≡ n = omega arith in
-    let l : length (midOf 0 (n - 0) b) ≡ n = rw z (length-take-le n b h) in
-    let q : p ≡ lineWords line n = e ∙ ap (lineWords line) l in
-    let m : length p ≡ n = ap length q ∙ line-words-length line n in
-    rw z (take-at p (drop n b) n m) ∙ q
+-- it closes no more steps than it is pushed times
+pub hold-few : (w k : ℕ) {o h : Step} {n : ℕ} {cs ws cs′ ws′ : List ℕ} → Fills o (replicate k w) cs ws n h cs′ ws′ → n ≤ k
+hold-few w k f = omega (arith, filling f .few, length-replicate k w)

@@ -8,9 +8,11 @@ pub mod Passes
 pub mod Spelling
 pub mod Puts
 pub mod Printed
+pub mod LineLoops
 pub mod FieldLoops
 pub mod Readback
 pub mod Prints
 pub mod Named
+pub mod Agreeing
 pub mod Before
 pub mod OneLine

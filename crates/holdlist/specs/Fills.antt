@@ -2,12 +2,10 @@
 -- names none of it.
 -- A writer is given what is free of the two lists, cs and ws, which are cs′ and ws′ when it is done.
 -- Assumes nothing.
-use Prim.Native.Nat.{ℕ, zero, suc, _+_, _-_, _≤_, _<_}
+use Prim.Native.Nat.{ℕ, _+_, _-_, _≤_}
 use mathlib.Core.Path.{_≡_}
-use mathlib.Core.List.{List, [], _∷_, _++_}
-use mathlib.Core.Bool.{Bool, true, _&&_}
-use lib.ListN.{length, getD, take, replicate}
-use lib.Dec.{eqb}
+use mathlib.Core.List.{List, [], _∷_}
+use lib.ListN.{length}
 use Rattle.profile.specs.Lists.{chunks}
 use Rattle.profile.specs.Geometry.{firstLine, endLine, Ordered, lineLength}
 use Rattle.profile.specs.declared.Tables.{Tables}
@@ -49,16 +47,3 @@ pub record Writes (s : List Step) (cs ws : List ℕ) (steps : ℕ) (cs′ ws′ 
 pub record Fills (o : Step) (xs : List ℕ) (cs ws : List ℕ) (steps : ℕ) (held : Step) (cs′ ws′ : List ℕ) : Type 0 where
   pub writes : Writes (closed o xs) cs ws steps cs′ ws′
   pub leaves : held ≡ opened o xs
-
--- ---- how a run of equal words is found
-
--- the words of xs from i up to j are all w
-pub record Alike (xs : List ℕ) (w i j : ℕ) : Type 0 where
-  pub some : i < j
-  pub within : j ≤ length xs
-  pub grows : take j xs ≡ take i xs ++ replicate (j - i) w
-
--- whether the n words of xs from i on are all w
-unfoldable pub same : ℕ → List ℕ → ℕ → ℕ → Bool
-same zero xs i w = true
-same (suc n) xs i w = same n xs i w && eqb (getD xs (i + n) 0) w

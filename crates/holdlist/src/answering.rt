@@ -1,5 +1,5 @@
 // From the bytes of a script to the text that the program prints for it: read, compiled and told.
-use crate::compiling::compile_in;
+use crate::compiling::compile_edges_in;
 use crate::text::put_printed;
 use crate::text::put_refused_line;
 use profile::Ruleset;
@@ -33,6 +33,6 @@ pub fn put_text_in(out: &mut [u8], at: usize, rules: Ruleset, script: &[u8]) -> 
     let profile = answer.profile;
     let mut counts = count_room();
     let mut words = word_room();
-    let compiled = compile_in(rules, profile, &mut counts, &mut words);
+    let compiled = compile_edges_in(rules, profile, &mut counts, &mut words);
     put_printed(out, at, compiled, &counts, &words)
 }

@@ -2,6 +2,7 @@
 ghost use Rattle.profile.specs.Versions.{newestRules};
 ghost use Rattle.holdlist.specs.Compile.{Compiles};
 use crate::Compiled;
+use crate::filling::Engine;
 use crate::filling::fill_field;
 use crate::steps::least;
 use profile::Profile;
@@ -12,8 +13,9 @@ use profile::newest_rules;
 use profile::pixel_count;
 use profile::refuse;
 
-// Compiles a profile's field into two lent lists: the check's refusal, 18 with the steps needed, or the steps used and the pixels.
-pub fn compile_in(
+// Compiles a profile's field into two lent lists by one of the engines.
+fn compile_by(
+    engine: Engine,
     rules: Ruleset,
     profile: Profile,
     counts: &mut [u32],
@@ -32,6 +34,7 @@ pub fn compile_in(
     let tables = profile.tables;
     let field = profile.field;
     let need = fill_field(
+        engine,
         rules.version,
         tables,
         field,
@@ -45,7 +48,7 @@ pub fn compile_in(
             pixels: 0,
         };
     }
-    let steps = fill_field(rules.version, tables, field, counts, words);
+    let steps = fill_field(engine, rules.version, tables, field, counts, words);
     Compiled {
         verdict: accept(),
         steps,
@@ -53,9 +56,39 @@ pub fn compile_in(
     }
 }
 
+// Compiles a profile's field pixel by pixel: the check's refusal, 18 with the steps needed, or the steps used and the pixels.
+pub fn compile_in(
+    rules: Ruleset,
+    profile: Profile,
+    counts: &mut [u32],
+    words: &mut [u16],
+) -> Compiled
+    ensures { λ r. ⌜ Compiles rules profile (now (counts .entry)) (now (words .entry)) r (now (counts .exit)) (now (words .exit)) ⌝ }
+{
+    compile_by(Engine::Pixels, rules, profile, counts, words)
+}
+
 // The same by the newest rules.
 pub fn compile(profile: Profile, counts: &mut [u32], words: &mut [u16]) -> Compiled
     ensures { λ r. ⌜ Compiles newestRules profile (now (counts .entry)) (now (words .entry)) r (now (counts .exit)) (now (words .exit)) ⌝ }
 {
     compile_in(newest_rules(), profile, counts, words)
+}
+
+// The same from edge to edge.
+pub fn compile_edges_in(
+    rules: Ruleset,
+    profile: Profile,
+    counts: &mut [u32],
+    words: &mut [u16],
+) -> Compiled
+    ensures { λ r. ⌜ Compiles rules profile (now (counts .entry)) (now (words .entry)) r (now (counts .exit)) (now (words .exit)) ⌝ }
+{
+    compile_by(Engine::Edges, rules, profile, counts, words)
+}
+
+pub fn compile_edges(profile: Profile, counts: &mut [u32], words: &mut [u16]) -> Compiled
+    ensures { λ r. ⌜ Compiles newestRules profile (now (counts .entry)) (now (words .entry)) r (now (counts .exit)) (now (words .exit)) ⌝ }
+{
+    compile_edges_in(newest_rules(), profile, counts, words)
 }

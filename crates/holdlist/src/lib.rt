@@ -10,6 +10,8 @@ mod text;
 
 pub use answering::put_text_in;
 pub use compiling::compile;
+pub use compiling::compile_edges;
+pub use compiling::compile_edges_in;
 pub use compiling::compile_in;
 pub use playing::play;
 pub use text::put_byte;

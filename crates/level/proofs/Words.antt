@@ -28,6 +28,7 @@ use Rattle.profile.proofs.Lines.{
   before-more,
   before-all,
   before-later,
+  size-product,
   pixels-lines,
   has-line,
   has-pixel,
@@ -61,6 +62,7 @@ use Rattle.level.specs.declared.Pulse.{Pulse}
 use Rattle.level.specs.declared.Span.{Span}
 use Rattle.level.specs.declared.Line.{Line}
 use Rattle.level.specs.Line.{lineWith, lineIn, lineOf}
+use Rattle.level.specs.Strips.{stripWith, stripOf, lineOn}
 use Rattle.level.specs.Word.{
   runLevel,
   carriedLevel,
@@ -170,6 +172,11 @@ module _ (version : ℕ) (t : Tables) (f : Field) (line : ℕ) where
   unfolding lineWith lineLength
   line-of-length h = ap (λ (l : Line). l .length) (line-of h)
 
+  -- a pixel that the field has is one of the line's
+  pub pixel-of-line : (pixel : ℕ) {l : Line} → l ≡ lineOf version t f line → hasPixel t f line pixel ≡ true → pixel < l .length
+  pixel-of-line pixel e h =
+      omega (arith, has-pixel t f line pixel h, ap (λ (l : Line). l .length) e, line-of-length (has-line t f line pixel h))
+
   -- in region i
   module _ (o : Ordered f) (i : ℕ) (h : i < regionCount f) (l : firstLine f i ≤ line) (u : line < endLine f i) where
     pub line-of-region : lineOf version t f line ≡ lineIn version t f line i
@@ -177,6 +184,11 @@ module _ (version : ℕ) (t : Tables) (f : Field) (line : ℕ) where
 
     pub words-of-region : wordsOnLine version t f line ≡ lineWords (lineIn version t f line i) (lengthIn t f i line)
     words-of-region = rw (line-of-region, line-length-in f o t i line h l u)
+
+-- what code makes of what the lines of a region share: a region's pixels before a line are their product
+pub strip-line : (version : ℕ) (t : Tables) (f : Field) (i line : ℕ) → lineOn (stripOf version t f i) line ≡ lineIn version t f line i
+unfolding lineOn stripWith lineWith lengthIn
+strip-line version t f i line = rw (size-product t f i line)
 
 -- ---- a field pixel, and its line and pixel: of two lines that start at one place the later has it, for the earlier has no pixel
 

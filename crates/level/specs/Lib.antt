@@ -1,6 +1,10 @@
 pub mod Line
+pub mod Strips
 pub mod Word
 pub mod Fieldwords
 pub mod Place
-pub mod Count
+pub mod Next
+pub mod Edges
+pub mod Keys
 pub mod Ready
+pub mod Made

@@ -1,8 +1,9 @@
--- The level asked for at a line and pixel, and the line and pixel of a field pixel counted from 0.
+-- The level asked for at a line and pixel, the line and pixel of a field pixel counted from 0, and the next edge: the nearest later pixel of another word.
 -- Assumes nothing.
-use Prim.Native.Nat.{ℕ, _+_, _-_, _*_}
-use mathlib.Core.Bool.{cond}
-use lib.Dec.{ltb}
+use Prim.Native.Nat.{ℕ, _+_, _-_, _*_, _<_}
+use mathlib.Core.Path.{_≡_}
+use mathlib.Core.Bool.{false, true, cond, not}
+use lib.Dec.{ltb, eqb}
 use Rattle.profile.specs.Lists.{lastStart}
 use Rattle.profile.specs.Values.{accepted, refused, accepts}
 use Rattle.profile.specs.Geometry.{pixelsBefore, pixelCount, hasPixel}
@@ -14,8 +15,10 @@ use Rattle.profile.specs.declared.Verdict.{Verdict}
 use Rattle.profile.specs.declared.Ruleset.{Ruleset}
 use Rattle.level.specs.declared.LevelAnswer.{LevelAnswer}
 use Rattle.level.specs.declared.Located.{Located}
+use Rattle.level.specs.declared.Edge.{Edge}
 use Rattle.level.specs.Line.{lineOf}
 use Rattle.level.specs.Word.{wordOf}
+use Rattle.level.specs.Next.{next}
 
 -- "a refused level .. gives word 0"
 abbrev pub noLevel : Verdict → LevelAnswer
@@ -57,3 +60,39 @@ placeAnswer t f n =
 -- the check's refusal first
 unfoldable pub locateAnswer : Ruleset → Profile → ℕ → Located
 locateAnswer rules p n = cond (accepts (checkProfile rules p)) (placeAnswer (p .tables) (p .field) n) (noPlace (checkProfile rules p))
+
+-- the word of field pixel n
+abbrev pub wordAt : ℕ → Tables → Field → ℕ → ℕ
+wordAt version t f n = wordOf (lineOf version t f (lineAt t f n)) (pixelAt t f n)
+
+-- "the nearest later pixel in the field whose word differs from the word there", of field pixel n; the number of pixels where there is none
+unfoldable pub changeAfter : ℕ → Tables → Field → ℕ → ℕ
+changeAfter version t f n = next (λ m. not (eqb (wordAt version t f m) (wordAt version t f n))) n (pixelCount t f)
+
+-- "as line and pixel, or none": zeros where there is none, and where it is refused
+abbrev pub noEdge : Verdict → Edge
+noEdge v = record { verdict = v; found = false; line = 0; pixel = 0 }
+
+abbrev pub edgeAt : Tables → Field → ℕ → Edge
+edgeAt t f n =
+    cond (ltb n (pixelCount t f)) (record { verdict = accepted; found = true; line = lineAt t f n; pixel = pixelAt t f n }) (noEdge accepted)
+
+-- "refusals as for a level": the check's, then 19 where the field has no such pixel
+unfoldable pub nextEdgeAnswer : Ruleset → Profile → ℕ → ℕ → Edge
+nextEdgeAnswer rules p line pixel =
+    cond (accepts (checkProfile rules p))
+    (cond (hasPixel (p .tables) (p .field) line pixel)
+    (edgeAt (p .tables) (p .field) (changeAfter (rules .version) (p .tables) (p .field) (placeOf (p .tables) (p .field) line pixel)))
+    (noEdge (refused 19 0)))
+    (noEdge (checkProfile rules p))
+
+-- what it answers for a pixel that an accepted profile's field has (proofs/Changing.antt: next-edge-means): if found, a later pixel of the field whose word
+-- is another, and every pixel between has the asked one's word; if not, every later pixel of the field has it
+pub record EdgeMeans (version : ℕ) (t : Tables) (f : Field) (line pixel : ℕ) (e : Edge) : Type 0 where
+  pub there : e .found ≡ true → hasPixel t f (e .line) (e .pixel) ≡ true
+  pub later : e .found ≡ true → placeOf t f line pixel < placeOf t f (e .line) (e .pixel)
+  pub another : e .found ≡ true → wordOf (lineOf version t f (e .line)) (e .pixel) ≡ wordOf (lineOf version t f line) pixel → ⊥
+  pub between : e .found ≡ true → (n q : ℕ) → hasPixel t f n q ≡ true → placeOf t f line pixel < placeOf t f n q
+      → placeOf t f n q < placeOf t f (e .line) (e .pixel) → wordOf (lineOf version t f n) q ≡ wordOf (lineOf version t f line) pixel
+  pub none : e .found ≡ false → (n q : ℕ) → hasPixel t f n q ≡ true → placeOf t f line pixel < placeOf t f n q
+      → wordOf (lineOf version t f n) q ≡ wordOf (lineOf version t f line) pixel

@@ -1,84 +1,88 @@
--- Nobody has to believe this file: it says what a line made ready holds, what it says at a pixel, and what it is to keep levels from pixel to
--- pixel. proofs/Counting.antt and the proofs of `outputs` show that Word's word comes out.
+-- Nobody has to believe this file: it says what a line made ready holds, its levels at a pixel and whether some output can change there.
+-- proofs/Making.antt and RuleEdges.antt show that these are Word's levels and the edges of Edges.
 -- Assumes nothing.
-use Prim.Native.Nat.{ℕ, _+_, _-_, _*_, _%_, _<_, _≤_}
+use Prim.Native.Nat.{ℕ, _+_, _-_, _*_, _/_, _%_, _<_}
 use mathlib.Core.Path.{_≡_}
-use mathlib.Core.List.{List}
-use mathlib.Core.Bool.{Bool, cond, _&&_}
+use mathlib.Core.List.{List, [], _∷_}
+use mathlib.Core.Bool.{Bool, cond, not, _&&_, _||_}
 use lib.ListN.{getD}
-use lib.Dec.{leb, eqb}
+use lib.Dec.{ltb, leb, eqb}
 use Rattle.profile.specs.Patterns.{rowsOf}
-use Rattle.profile.specs.declared.Pattern.{Pattern}
-use Rattle.level.specs.declared.Run.{Run}
-use Rattle.level.specs.declared.Pulse.{Pulse}
-use Rattle.level.specs.declared.Span.{Span}
-use Rattle.level.specs.declared.outputs.First.{First}
-use Rattle.level.specs.declared.outputs.Second.{Second}
-use Rattle.level.specs.declared.outputs.Edges.{Edges}
-use Rattle.level.specs.declared.outputs.Ready.{Ready}
-use Rattle.level.specs.declared.outputs.Kept.{Kept}
-use Rattle.level.specs.Word.{bit, flipped, firstLevel, secondLevel, shownAt, pulseLevel, spanLevel, six, gateWord}
-use Rattle.level.specs.Count.{runCount, runTurn, timesCount, countTo, upTo, sixAt}
+use Rattle.level.specs.Word.{bit, flipped, frozen, shownAt}
+use Rattle.level.specs.declared.Mask.{Mask}
+use Rattle.level.specs.declared.first.First.{First}
+use Rattle.level.specs.declared.second.Second.{Second}
+use Rattle.level.specs.declared.others.Edges.{Edges}
+use Rattle.level.specs.declared.others.Others.{Others}
+use Rattle.level.specs.declared.ready.Ready.{Ready}
+use Rattle.level.specs.Keys.{among, upTo, sixAt}
+use Rattle.level.specs.Next.{next, anyOf}
+use Rattle.level.specs.Edges.{maskEdge}
 
--- ---- the rules, six or eight outputs at a time
+-- ---- the first pattern, t pixels after its start
 
-unfoldable pub firstWord : Run → Pattern → ℕ → ℕ → ℕ → ℕ
-firstWord run a start r q = six (λ k. firstLevel run a start r k q)
-
-unfoldable pub secondWord : Pattern → ℕ → ℕ
-secondWord a p = six (λ k. secondLevel a k p)
-
--- gates, SUBCK, MSHUT and STROBE as bits 0 to 7
-unfoldable pub othersWord : List Pulse → Pulse → Span → Span → ℕ → ℕ
-othersWord gates subck mshut strobe p =
-    gateWord gates p + pulseLevel subck p * 32 + spanLevel mshut p * 64 + spanLevel strobe p * 128
-
--- ---- the same, made ready
-
-unfoldable pub firstCount : First → ℕ → ℕ
-firstCount f q = cond (f .times) (timesCount (f .start) (f .length) q) (runCount (f .start) (f .length) (f .repetitions) q)
-
--- the repetition, and the levels that repetition i begins with
-unfoldable pub firstTurn : First → ℕ → ℕ
-firstTurn f q = cond (f .times) 0 (runTurn (f .start) (f .length) (f .repetitions) q)
-
+-- the levels that repetition i begins with
 abbrev pub beginsWith : First → ℕ → ℕ
 beginsWith f i = cond (eqb (i % 2) 0) (f .levels) (f .turned)
 
-unfoldable pub firstAt : First → ℕ → ℕ
-firstAt f q = sixAt (beginsWith f (firstTurn f q)) (rowsOf (f .keys)) (firstCount f q)
+abbrev pub runPixels : First → ℕ
+runPixels f = f .repetitions * f .length
+
+unfoldable pub runAt : First → ℕ → ℕ
+runAt f t =
+    cond (ltb t (runPixels f))
+    (sixAt (beginsWith f (t / f .length)) (rowsOf (f .keys)) (t % f .length + 1))
+    (beginsWith f (f .repetitions))
+
+-- a repetition's start, the run's end, a toggle
+unfoldable pub runEdge : First → ℕ → Bool
+runEdge f t = leb t (runPixels f) && (eqb (t % f .length) 0 || among (f .keys) (t % f .length))
+
+unfoldable pub timesAt : First → ℕ → ℕ
+timesAt f t = sixAt (f .levels) (rowsOf (f .keys)) (cond (eqb (f .length) 0) 65536 (upTo 65535 (t / f .length) + 1))
+
+-- the start, a used toggle times the length
+unfoldable pub timesEdge : First → ℕ → Bool
+timesEdge f t = eqb t 0 || eqb (t % f .length) 0 && (ltb (t / f .length) 65536 && among (f .keys) (t / f .length))
+
+-- by the region's pixel
+abbrev pub firstAt : First → ℕ → ℕ
+firstAt f q = cond (ltb q (f .start)) (f .levels) (cond (f .times) (timesAt f (q - f .start)) (runAt f (q - f .start)))
+
+abbrev pub firstEdge : First → ℕ → Bool
+firstEdge f q = leb (f .start) q && cond (f .times) (timesEdge f (q - f .start)) (runEdge f (q - f .start))
+
+-- ---- the second pattern
+
+abbrev pub begunAt : Second → ℕ → Bool
+begunAt s p = s .acts && leb (s .length) p
 
 unfoldable pub secondAt : Second → ℕ → ℕ
-secondAt s p = sixAt (s .levels) (rowsOf (s .keys)) (countTo (p - s .length))
+secondAt s p = sixAt (s .levels) (rowsOf (s .keys)) (p - s .length + 1)
 
-abbrev pub secondBegun : Second → ℕ → Bool
-secondBegun s p = s .acts && leb (s .length) p
+unfoldable pub secondEdge : Second → ℕ → Bool
+secondEdge s p = eqb p (s .length) || among (s .keys) (p - s .length)
 
--- what acts at a pixel: 0 and 1 are the first pattern, in a repetition of even and of odd number, 2 is the second; then the count there, and V1
--- to V6 by it
-unfoldable pub sideOf : Ready → ℕ → ℕ
-sideOf r p = cond (secondBegun (r .second) p) 2 (firstTurn (r .first) (r .first .origin + p) % 2)
-
-abbrev pub countAt : Ready → ℕ → ℕ → ℕ
-countAt r side p =
-    cond (eqb side 2) (countTo (p - r .second .length)) (firstCount (r .first) (r .first .origin + p))
-
-unfoldable pub sideAt : Ready → ℕ → ℕ → ℕ
-sideAt r side n =
-    cond (eqb side 2)
-    (sixAt (r .second .levels) (rowsOf (r .second .keys)) n)
-    (sixAt (cond (eqb side 0) (r .first .levels) (r .first .turned)) (rowsOf (r .first .keys)) n)
+-- ---- V1 to V6, before masks
 
 unfoldable pub unmaskedAt : Ready → ℕ → ℕ
-unmaskedAt r p = cond (secondBegun (r .second) p) (secondAt (r .second) p) (firstAt (r .first) (r .first .origin + p))
+unmaskedAt r p = cond (begunAt (r .second) p) (secondAt (r .second) p) (firstAt (r .first) (r .first .origin + p))
+
+unfoldable pub unmaskedEdge : Ready → ℕ → Bool
+unmaskedEdge r p = cond (begunAt (r .second) p) (secondEdge (r .second) p) (firstEdge (r .first) (r .first .origin + p))
+
+-- ---- gates, SUBCK and shutters
 
 abbrev pub edgesAt : Edges → ℕ → ℕ
 edgesAt e p = flipped (e .level) (bit (leb (e .on) p) + bit (leb (e .off) p))
 
+abbrev pub edgesEdge : Edges → ℕ → Bool
+edgesEdge e p = eqb p (e .on) || eqb p (e .off)
+
 abbrev pub noEdges : Edges
 noEdges = record { level = 0; on = 0; off = 0 }
 
-abbrev pub eightAt : List Edges → ℕ → ℕ
+unfoldable pub eightAt : List Edges → ℕ → ℕ
 eightAt t p =
     edgesAt (getD t 0 noEdges) p
     + edgesAt (getD t 1 noEdges) p * 2
@@ -89,17 +93,31 @@ eightAt t p =
     + edgesAt (getD t 6 noEdges) p * 64
     + edgesAt (getD t 7 noEdges) p * 128
 
--- the word
+abbrev pub eightEdge : List Edges → ℕ → Bool
+eightEdge t p = anyOf 8 (λ k. edgesEdge (getD t k noEdges) p)
+
+-- ---- the word
+
 unfoldable pub readyWord : Ready → ℕ → ℕ
-readyWord r p = unmaskedAt r (shownAt (r .mask1) (r .mask2) p) + eightAt (r .others) (upTo 65535 p) * 64
+readyWord r p = unmaskedAt r (shownAt (r .mask1) (r .mask2) p) + eightAt (r .others .edges) p * 64
 
--- ---- levels kept from pixel to pixel
+-- a gate, SUBCK or shutter flips at p, or a mask begins or ends
+abbrev pub stillEdge : Ready → ℕ → Bool
+stillEdge r p = (eightEdge (r .others .edges) p || maskEdge (r .mask1) p) || maskEdge (r .mask2) p
 
--- k functions F 0, F 1 .. are at all numbers from n to `last` what they are at n
-abbrev pub Stays : {A : Type 0} → (ℕ → ℕ → A) → ℕ → ℕ → ℕ → Type 0
-Stays F n k last = (j : ℕ) → j < k → (m : ℕ) → n ≤ m → m ≤ last → F j m ≡ F j n
+-- whether some output can change at p: while a mask holds, V1 to V6 do not
+unfoldable pub readyEdge : Ready → ℕ → Bool
+readyEdge r p = stillEdge r p || (not (frozen (r .mask1) p) && (not (frozen (r .mask2) p) && unmaskedEdge r p))
 
--- the levels kept are below a bound, and what f is at all numbers from one to another
-pub record Keeps (bound : ℕ) (f : ℕ → ℕ) (k : Kept) : Type 0 where
-  pub small : k .levels < bound
-  pub same : (n : ℕ) → k .from ≤ n → n ≤ k .to → f n ≡ k .levels
+-- ---- what making ready gives
+
+-- the levels held are those up to the first edge after pixel 0
+pub record Steady (o : Others) : Type 0 where
+  pub first : o .first ≡ eightAt (o .edges) 0
+  pub until : o .steady ≡ next (λ q. eightEdge (o .edges) q) 0 65535
+
+-- and start levels are six bits
+pub record Fit (r : Ready) : Type 0 where
+  pub steady : Steady (r .others)
+  pub levels : r .first .levels < 64
+  pub turned : r .first .turned < 64

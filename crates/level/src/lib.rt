@@ -1,17 +1,36 @@
 // The word of 14 output levels at every line and pixel of a field. A line holds where everything acts on it; the word says the levels.
+mod first;
+mod keys;
 mod lines;
-mod outputs;
+mod made;
+mod masks;
+mod nearest;
+mod others;
+mod pixels;
 mod place;
+mod ready;
+mod second;
+mod stops;
 
 pub use lines::line_of;
-pub use outputs::fill;
-pub use outputs::word_of;
+pub use lines::line_on;
+pub use lines::strip_of;
+pub use nearest::next_edge;
+pub use nearest::next_edge_in;
+pub use pixels::fill;
 pub use place::level;
 pub use place::level_in;
 pub use place::locate;
 pub use place::locate_in;
+use profile::Field;
+use profile::Gate;
+use profile::Mode;
 use profile::Pattern;
+use profile::Sequence;
+use profile::Shutter;
+use profile::Subck;
 use profile::Verdict;
+pub use stops::stretches;
 
 // How V1 to V6 run on a line: each repetition starts afresh, or takes over the levels that the last one ended with, or the toggles are multiplied.
 pub enum Run {
@@ -60,6 +79,20 @@ pub struct Line {
     pub strobe: Span,
 }
 
+// What all lines of a region share: how V1 to V6 run there, its first line, its sequence and that one's pattern, and what acts anywhere in the field.
+pub struct Strip {
+    pub run: Run,
+    pub mode: Mode,
+    pub first: u16,
+    pub sequence: Sequence,
+    pub pattern: Pattern,
+    pub field: Field,
+    pub second: Pattern,
+    pub gates: [Gate; 5],
+    pub subck: Subck,
+    pub shutters: [Shutter; 2],
+}
+
 pub struct LevelAnswer {
     pub verdict: Verdict,
     pub word: u16,
@@ -67,6 +100,14 @@ pub struct LevelAnswer {
 
 pub struct Located {
     pub verdict: Verdict,
+    pub line: u64,
+    pub pixel: u64,
+}
+
+// Whether there is a next edge, and where.
+pub struct Edge {
+    pub verdict: Verdict,
+    pub found: bool,
     pub line: u64,
     pub pixel: u64,
 }

@@ -1,9 +1,11 @@
-// The line of a number: where everything acts on it, worked out from the rule version, the tables and the field once a line.
+// The line of a number: where everything acts on it, worked out from the rule version, the tables and the field. What the lines of a region share is
+// taken once a region.
 use crate::Line;
 use crate::Mask;
 use crate::Pulse;
 use crate::Run;
 use crate::Span;
+use crate::Strip;
 use profile::Field;
 use profile::Gate;
 use profile::Mode;
@@ -12,20 +14,20 @@ use profile::Subck;
 use profile::Tables;
 use profile::empty_pattern;
 use profile::has_second_line;
-use profile::length_in;
+use profile::lines_pixels;
 use profile::pattern_of;
 use profile::region_at;
 use profile::region_of;
-use profile::region_pixels;
 use profile::repetitions;
 use profile::sequence_of;
-ghost use Prim.Native.Nat.{_<_, _/_, _%_};
+ghost use Prim.Native.Nat.{_<_, _+_, _/_, _%_};
 ghost use mathlib.Core.Path.{_≡_};
-ghost use mathlib.Core.Bool.{_&&_};
-ghost use Rattle.profile.specs.Geometry.{regionPixels};
+ghost use mathlib.Core.Bool.{cond, _&&_};
+ghost use Rattle.profile.specs.Geometry.{productPixels};
 ghost use lib.Dec.{eqb};
 ghost use Rattle.profile.specs.Rules.{hasSecond};
 ghost use Rattle.level.specs.Line.{onGateLine, absentPulse, absentSpan, gateHere, gatesHere, subckHere, opensAt, closesAt, shutterHere, repeated as repeatedRun, runOf, originOf, lineIn, noLine, lineOf};
+ghost use Rattle.level.specs.Strips.{stripOf, lineOn};
 
 // How a repetition begins, by the rule version.
 fn repeated(version: u16) -> Run
@@ -49,11 +51,11 @@ fn run_of(version: u16, mode: Mode) -> Run
     }
 }
 
-// The region's pixels before a line of region i.
-fn pixels_before(tables: Tables, field: Field, i: usize, line: u16) -> u32
-    ensures { λ r. ⌜ r ≡ regionPixels tables field i line ⌝ }
+// The pixels of the lines from a region's first on before a line.
+fn pixels_before(first: u16, lines: u16, last: u16, length: u16, line: u16) -> u32
+    ensures { λ r. ⌜ r ≡ productPixels first lines last length line ⌝ }
 {
-    region_pixels(tables, field, i, line) as u32
+    lines_pixels(first, lines, last, length, line) as u32
 }
 
 // Those of them since the start level was set: in plain none, for each line sets it.
@@ -202,36 +204,80 @@ fn shutter_here(shutter: Shutter, line: u16, length: u16) -> Span
     }
 }
 
-// A line of region i.
-fn line_in(version: u16, tables: Tables, field: Field, line: u16, i: usize) -> Line
-    ensures { λ r. ⌜ r ≡ lineIn version tables field line i ⌝ }
+// The length of a line, by the field's lines, the length of its last and that of the others of its region.
+fn length_on(lines: u16, last: u16, length: u16, line: u16) -> u16
+    ensures { λ r. ⌜ r ≡ cond (eqb (line + 1) lines) last length ⌝ }
+{
+    if (line as u32) + 1 == (lines as u32) {
+        return last;
+    }
+    length
+}
+
+// What the lines of region i share.
+pub fn strip_of(version: u16, tables: Tables, field: Field, i: usize) -> Strip
+    ensures { λ r. ⌜ r ≡ stripOf version tables field i ⌝ }
 {
     let region = region_at(field, i);
     let mode = region.mode;
     let sequence = sequence_of(tables, region.sequence);
     let registers = tables.registers;
-    let pattern = pattern_of(registers, sequence.pattern);
-    let length = length_in(tables, field, i, line as u64);
-    let here = on_gate_line(field, line);
     let gates = tables.gates;
     let subck = tables.subck;
     let shutters = tables.shutters;
+    Strip {
+        run: run_of(version, mode),
+        mode: mode,
+        first: region.first,
+        sequence: sequence,
+        pattern: pattern_of(registers, sequence.pattern),
+        field: field,
+        second: pattern_of(registers, field.second),
+        gates: gates,
+        subck: subck,
+        shutters: shutters,
+    }
+}
+
+// A line of a region, by what its lines share.
+pub fn line_on(strip: Strip, line: u16) -> Line
+    ensures { λ r. ⌜ r ≡ lineOn strip line ⌝ }
+{
+    let run = strip.run;
+    let mode = strip.mode;
+    let sequence = strip.sequence;
+    let pattern = strip.pattern;
+    let field = strip.field;
+    let second = strip.second;
+    let gates = strip.gates;
+    let subck = strip.subck;
+    let shutters = strip.shutters;
+    let length = length_on(field.lines, field.last, sequence.length, line);
+    let before = pixels_before(strip.first, field.lines, field.last, sequence.length, line);
+    let here = on_gate_line(field, line);
     Line {
         length: length,
-        run: run_of(version, mode),
+        run: run,
         pattern: pattern,
         start: sequence.start,
-        origin: origin_of(mode, pixels_before(tables, field, i, line)),
+        origin: origin_of(mode, before),
         repetitions: repetitions(sequence, line as u64),
         mask1: mask_of(sequence.mask, 1, pattern.freeze1, pattern.resume1),
         mask2: mask_of(sequence.mask, 2, pattern.freeze2, pattern.resume2),
         second_acts: doubles(field, here),
-        second: pattern_of(registers, field.second),
+        second: second,
         gates: gates_here(gates, here),
         subck: subck_here(subck, field.gate, line),
         mshut: shutter_here(shutters[0], line, length),
         strobe: shutter_here(shutters[1], line, length),
     }
+}
+
+// A line of region i.
+fn line_in(version: u16, tables: Tables, field: Field, line: u16, i: usize) -> Line
+    ensures { λ r. ⌜ r ≡ lineIn version tables field line i ⌝ }
+{
+    line_on(strip_of(version, tables, field, i), line)
 }
 
 // A line that the field does not have: as if every item were absent.

@@ -3,7 +3,7 @@
 use crate::LevelAnswer;
 use crate::Located;
 use crate::lines::line_of;
-use crate::outputs::word_of;
+use crate::pixels::word_of;
 use profile::Field;
 use profile::Profile;
 use profile::Ruleset;
@@ -42,9 +42,10 @@ pub fn level_in(rules: Ruleset, profile: Profile, line: u64, pixel: u64) -> Leve
             word: 0,
         };
     }
+    let shown = line_of(rules.version, tables, field, line);
     LevelAnswer {
         verdict: accept(),
-        word: word_of(line_of(rules.version, tables, field, line), pixel),
+        word: word_of(shown, pixel as u16),
     }
 }
 

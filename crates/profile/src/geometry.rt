@@ -186,7 +186,7 @@ pub(crate) fn product(n: u16, length: u16) -> u64
 }
 
 // The pixels of the lines from a region's first on before a line: lines of one length, the field's last line having its own.
-fn lines_pixels(first: u16, lines: u16, last: u16, length: u16, line: u16) -> u64
+pub fn lines_pixels(first: u16, lines: u16, last: u16, length: u16, line: u16) -> u64
     ensures { λ r. ⌜ r ≡ productPixels first lines last length line ⌝ }
     ensures { λ r. ⌜ r ≤ 4294901760 ⌝ }
 {

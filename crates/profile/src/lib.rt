@@ -18,6 +18,7 @@ pub use geometry::has_pixel;
 pub use geometry::has_second_line;
 pub use geometry::length_in;
 pub use geometry::line_length;
+pub use geometry::lines_pixels;
 pub use geometry::pixel_count;
 pub use geometry::region_at;
 pub use geometry::region_count;

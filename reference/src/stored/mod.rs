@@ -1,7 +1,8 @@
 //! The stored batch: fixed, by hand. Every number of refusal at several places,
 //! every mode, edge and slip that 01 names. What depends on the rule version is
-//! asked by both.
+//! asked by both, and every compile of both engines.
 
+mod edges;
 mod full;
 mod gate_lines;
 mod lists;
@@ -12,7 +13,7 @@ mod runs;
 mod w;
 mod words;
 
-use crate::case::{Case, ENTRIES_MOST};
+use crate::case::{Case, Engine, ENTRIES_MOST};
 use crate::list::steps_needed;
 use crate::make::*;
 use crate::profile::Profile;
@@ -29,8 +30,22 @@ pub fn cases() -> Vec<Case> {
     words::add(&mut batch);
     runs::add(&mut batch);
     lists::add(&mut batch);
+    edges::add(&mut batch);
     full::add(&mut batch);
-    batch.cases
+    asked_of_both_engines(batch.cases)
+}
+
+/// The cases, and then every compile among them again, of the engine that jumps
+/// from edge to edge.
+fn asked_of_both_engines(mut cases: Vec<Case>) -> Vec<Case> {
+    for i in 0..cases.len() {
+        let mut again = cases[i].clone();
+        if let Case::Compile { engine, .. } = &mut again {
+            *engine = Engine::Jumping;
+            cases.push(again);
+        }
+    }
+    cases
 }
 
 struct Batch {
@@ -60,13 +75,23 @@ impl Batch {
         }
     }
 
+    fn next_edge_by(&mut self, version: u16, profile: &Profile, line: u64, pixel: u64) {
+        self.cases.push(Case::NextEdge { profile: *profile, version, line, pixel });
+    }
+
+    fn next_edge(&mut self, profile: &Profile, line: u64, pixel: u64) {
+        for version in VERSIONS {
+            self.next_edge_by(version, profile, line, pixel);
+        }
+    }
+
     fn locate(&mut self, profile: &Profile, n: u64) {
         self.cases.push(Case::Locate { profile: *profile, n });
     }
 
     fn compile_by(&mut self, version: u16, profile: &Profile, counts: usize, words: usize) {
         let (counts, words) = (lent_counts(counts), lent_words(words));
-        self.cases.push(Case::Compile { profile: *profile, version, counts, words });
+        self.cases.push(Case::Compile { engine: Engine::Plain, profile: *profile, version, counts, words });
     }
 
     fn compile(&mut self, profile: &Profile, counts: usize, words: usize) {
@@ -119,6 +144,7 @@ impl Batch {
         self.judge(profile);
         self.write(profile, 1320);
         self.level(profile, 0, 0);
+        self.next_edge(profile, 0, 0);
         self.locate(profile, 0);
         self.compile(profile, 40, 41);
         if check_ranges(profile).is_ok() {
@@ -131,6 +157,7 @@ impl Batch {
     fn ask_all_too_much(&mut self, profile: &Profile) {
         self.write(profile, 5);
         self.level(profile, u64::MAX, u64::MAX);
+        self.next_edge(profile, u64::MAX, u64::MAX);
         self.locate(profile, u64::MAX);
         self.compile(profile, 0, 0);
     }

@@ -219,6 +219,7 @@ fn asked(cases: &[Case]) -> Asked {
             Case::Check { profile }
             | Case::Write { profile, .. }
             | Case::Level { profile, .. }
+            | Case::NextEdge { profile, .. }
             | Case::Locate { profile, .. }
             | Case::Compile { profile, .. } => asked.profiles.push((*profile, check(profile))),
             Case::Play { .. } | Case::Text { .. } => {}

@@ -399,7 +399,7 @@ fn all_kinds() -> Vec<&'static str> {
     RUNS_OF.concat().into_iter().chain(others).collect()
 }
 
-/// How many lists (K) and texts (T) by each version have each kind.
+/// How many lists (K and J) and texts (T) by each version have each kind.
 fn counted(cases: &[Case]) -> BTreeMap<(char, u16, &'static str), usize> {
     let mut counted = BTreeMap::new();
     for case in cases {
@@ -418,13 +418,14 @@ fn counted(cases: &[Case]) -> BTreeMap<(char, u16, &'static str), usize> {
     counted
 }
 
-fn has_all(cases: &[Case], lists: usize, texts: usize) {
+/// Whether cases of such letters together have every kind so many times.
+fn has_all(cases: &[Case], letters: &[(&str, usize)]) {
     let counted = counted(cases);
     for kind in all_kinds() {
         for version in VERSIONS {
-            for (letter, least) in [('K', lists), ('T', texts)] {
-                let count = counted.get(&(letter, version, kind)).copied().unwrap_or(0);
-                assert!(count >= least, "{letter} by {version} has {count} times: {kind}");
+            for (letters, least) in letters {
+                let count: usize = letters.chars().filter_map(|letter| counted.get(&(letter, version, kind))).sum();
+                assert!(count >= *least, "{letters} by {version} has {count} times: {kind}");
             }
         }
     }
@@ -481,15 +482,19 @@ fn asks_all(cases: &[Case], least: usize) {
     }
 }
 
-/// Words, lists and texts by the versions that act as another one.
+/// Words, edges, lists and texts by the versions that act as another one.
 fn has_other_versions(cases: &[Case]) {
     let mut seen = BTreeSet::new();
     for case in cases {
-        if let Case::Level { version, .. } | Case::Compile { version, .. } | Case::Text { version, .. } = case {
+        if let Case::Level { version, .. }
+        | Case::NextEdge { version, .. }
+        | Case::Compile { version, .. }
+        | Case::Text { version, .. } = case
+        {
             seen.insert((case.kind(), *version));
         }
     }
-    for kind in ['L', 'K', 'T'] {
+    for kind in ['L', 'E', 'K', 'J', 'T'] {
         for version in [0, 1, 2, 3, 65_535] {
             assert!(seen.contains(&(kind, version)), "no {kind} by {version}");
         }
@@ -499,7 +504,7 @@ fn has_other_versions(cases: &[Case]) {
 #[test]
 fn the_stored_batch_has_every_kind_of_run() {
     let cases = stored::cases();
-    has_all(&cases, 4, 4);
+    has_all(&cases, &[("K", 4), ("J", 4), ("T", 4)]);
     asks_all(&cases, 10);
     has_other_versions(&cases);
 }
@@ -509,9 +514,12 @@ fn the_stored_batch_has_every_kind_of_run() {
 fn the_stored_batch_asks_by_both_versions() {
     let mut asked = [BTreeSet::new(), BTreeSet::new()];
     for case in stored::cases() {
+        let letter = case.kind();
         let (version, question) = match case {
-            Case::Level { profile, version, line, pixel } => (version, (profile.numbers(), vec![], line, pixel)),
-            Case::Text { version, script } => (version, (vec![], script, 0, 0)),
+            Case::Level { profile, version, line, pixel } | Case::NextEdge { profile, version, line, pixel } => {
+                (version, (letter, profile.numbers(), vec![], line, pixel))
+            }
+            Case::Text { version, script } => (version, (letter, vec![], script, 0, 0)),
             _ => continue,
         };
         if VERSIONS.contains(&version) {
@@ -528,7 +536,7 @@ fn the_stored_batch_asks_by_both_versions() {
 fn a_random_batch_has_every_kind_of_run() {
     for seed in 1..=3 {
         let cases = random::cases(seed, 6000);
-        has_all(&cases, 3, 0);
+        has_all(&cases, &[("KJ", 3)]);
         asks_all(&cases, 3);
         has_other_versions(&cases);
         let counted = counted(&cases);

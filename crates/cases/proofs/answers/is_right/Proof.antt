@@ -9,9 +9,11 @@ pub is-right-spec : {M : Type 1} → statement M
 is-right-spec =
     tie.close
     (tie.spec (λ c κs. search needs) (λ c κs. search needs) (λ c κs. search needs) (λ c κs. search needs) (λ c κs. search needs)
-    (λ c κs. search needs) (λ c κs. search needs) (λ c. rw (c .match .keys1))
+    (λ c κs. search needs) (λ c κs. search needs) (λ c κs. search needs) (λ c κs. search needs) (λ c κs. search needs) (λ c. rw (c .match .keys1))
     (λ c. rw (c .is-raw .ensures, c .before .match .keys2)) (λ c. rw (c .is-raw2 .ensures, c .before .match .keys3))
     (λ c. rw (c .is-raw3 .ensures, c .before .match .keys4)) (λ c. rw (c .is-raw4 .ensures, c .before .match .keys5))
-    (λ c. rw (c .before .is-raw5 .ensures, c .has-lists .ensures, c .before .before .match .keys6))
-    (λ c. rw (c .match .keys7)) (λ c. rw (c .has-lists2 .ensures, c .before .match .keys8))
-    (λ c. let r = c .match .rest in simp (ne-eqb _ _ (r .0 .0 .0 .0 .0 .0 .0 .1), ne-eqb _ _ (r .0 .0 .0 .0 .0 .0 .1), ne-eqb _ _ (r .0 .0 .0 .0 .0 .1), ne-eqb _ _ (r .0 .0 .0 .0 .1), ne-eqb _ _ (r .0 .0 .0 .1), ne-eqb _ _ (r .0 .0 .1), ne-eqb _ _ (r .0 .1), ne-eqb _ _ (r .1))))
+    (λ c. rw (c .is-raw5 .ensures, c .before .match .keys6))
+    (λ c. rw (c .before .is-raw6 .ensures, c .has-lists .ensures, c .before .before .match .keys7))
+    (λ c. rw (c .before .is-raw7 .ensures, c .has-lists2 .ensures, c .before .before .match .keys8))
+    (λ c. rw (c .match .keys9)) (λ c. rw (c .has-lists3 .ensures, c .before .match .keys10))
+    (λ c. let r = c .match .rest in simp (ne-eqb _ _ (r .0 .0 .0 .0 .0 .0 .0 .0 .0 .1), ne-eqb _ _ (r .0 .0 .0 .0 .0 .0 .0 .0 .1), ne-eqb _ _ (r .0 .0 .0 .0 .0 .0 .0 .1), ne-eqb _ _ (r .0 .0 .0 .0 .0 .0 .1), ne-eqb _ _ (r .0 .0 .0 .0 .0 .1), ne-eqb _ _ (r .0 .0 .0 .0 .1), ne-eqb _ _ (r .0 .0 .0 .1), ne-eqb _ _ (r .0 .0 .1), ne-eqb _ _ (r .0 .1), ne-eqb _ _ (r .1))))

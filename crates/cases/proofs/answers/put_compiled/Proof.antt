@@ -1,4 +1,4 @@
--- The parts of what `compile` answers are put one after the other, then the lists as it left them.
+-- The parts of what the compile answers are put one after the other, then the lists as it left them.
 -- Assumes nothing.
 use borrow.Author.Needs.{needs}
 use Rattle.holdlist.proofs.Puts.{puts-as, puts-more}
@@ -18,7 +18,7 @@ returns c =
     let b = o .before .before .before .before in
     let a = b .before .before .before .before .before .before .before in
     puts-as (puts-more (puts-more (puts-more (puts-more (puts-more (b .put-verdict .ensures) (o .put-after .ensures)) (d .put-after2 .ensures)) (e .put-byte .ensures)) (f .put-counts .ensures)) (g .put-words .ensures))
-    (compile-told (a .compile-in .ensures))
+    (compile-told (a .compile-by .ensures))
 
 pub put-compiled-spec : {M : Type 1} → statement M
 put-compiled-spec =

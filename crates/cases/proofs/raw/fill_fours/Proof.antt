@@ -4,7 +4,7 @@ use Prim.Native.Nat.{_+_, _*_, _-_}
 use lib.ListN.{length}
 use borrow.Author.Needs.{needs}
 use Rattle.cases.specs.Raw.{fourAt}
-use Rattle.cases.proofs.Filling.{Filled, filled-all, filling}
+use Rattle.level.proofs.Filling.{Filled, filled-all, filling}
 use Rattle.cases.proofs.raw.fill_fours.Statement.{statement}
 use Rattle.cases.proofs.raw.fill_fours.Tie as tie
 

@@ -4,7 +4,7 @@ use Prim.Native.Nat.{_+_, _*_, _-_}
 use lib.ListN.{length}
 use borrow.Author.Needs.{needs}
 use Rattle.profile.specs.Bytes.{numberAt}
-use Rattle.cases.proofs.Filling.{Filled, filled-all, filling}
+use Rattle.level.proofs.Filling.{Filled, filled-all, filling}
 use Rattle.cases.proofs.raw.fill_numbers.Statement.{statement}
 use Rattle.cases.proofs.raw.fill_numbers.Tie as tie
 

@@ -27,8 +27,8 @@ returns-2 c =
     let w = m .before .before .before in
     let n = w .before .count-room in
     let room : roomOf (n .result) (w .word-room .result) ≡ 4096 = omega (arith, n .ensures, w .word-room .ensures) in
-    let e = printed-told _ _ (a .result) (a .ensures) (f .if1 .left) room (m .compile-in .ensures) in
-    let h : length (m .compile-in .last .1 .1 .0) ≡ 4096 = search needs in
+    let e = printed-told _ _ (a .result) (a .ensures) (f .if1 .left) room (m .compile-edges-in .ensures) in
+    let h : length (m .compile-edges-in .last .1 .1 .0) ≡ 4096 = search needs in
     puts-text (s .put-printed .ensures .puts) e (omega (arith, s .put-printed .ensures .short, h))
 
 pub put-text-in-spec : {M : Type 1} → statement M

@@ -12,11 +12,11 @@ use Rattle.holdlist.proofs.filling.fill_regions.Statement.{statement}
 use Rattle.holdlist.proofs.filling.fill_regions.Tie as tie
 
 abbrev Inv-loop : tie.InvT-loop
-Inv-loop version tables field counts₀ words₀ n held₀ used₀ i₀ counts words held used i =
+Inv-loop engine version tables field counts₀ words₀ n held₀ used₀ i₀ counts words held used i =
     (n ≡ regionCount field) × (n ≤ 7) × Turns (regionWords version tables field) n held₀ counts₀ words₀ i used held counts words
 
 abbrev μ-loop : tie.MeasureT-loop
-μ-loop version tables field counts₀ words₀ n held₀ used₀ i₀ counts words held used i = n - i
+μ-loop engine version tables field counts₀ words₀ n held₀ used₀ i₀ counts words held used i = n - i
 
 loop-holds : tie.Need-loop-holds Inv-loop μ-loop
 loop-holds c =
