@@ -9,7 +9,7 @@ use native.Mathlib.Omega.{arith}
 use borrow.Author.Tests.{ltb-true, ltb-false, leb-true, leb-false, le-leb, lt-leb, eqb-true, eq-eqb}
 use lib.Dec.{ltb, leb, eqb}
 use lib.ListN.{getD}
-use Rattle.profile.proofs.Laws.{by-cases, or-left, or-right}
+use Rattle.profile.proofs.Laws.{by-cases, or-left, or-right, and-intro}
 use Rattle.level.specs.Word.{frozen, shownAt}
 use Rattle.level.specs.declared.Mask.{Mask}
 use Rattle.level.specs.declared.others.Edges.{Edges}
@@ -18,7 +18,7 @@ use Rattle.level.specs.Next.{next}
 use Rattle.level.specs.Keys.{among}
 use Rattle.level.specs.Ready.{firstEdge, begunAt, secondEdge, unmaskedAt, unmaskedEdge, edgesAt, noEdges, eightAt, eightEdge, readyWord, stillEdge, readyEdge}
 use Rattle.level.specs.Edges.{maskEdge}
-use Rattle.level.proofs.Nexts.{clash, or-none, or-parts, and-none, and-true, Is, next-is, is-next, is-two, next-two, next-ext, next-on, next-shift, stays}
+use Rattle.level.proofs.Nexts.{clash, or-none, or-parts, and-none, Is, next-is, is-next, is-two, next-two, next-ext, next-on, next-shift, stays, both}
 use Rattle.level.proofs.Stays.{mask-stays, eight-stays}
 
 -- ---- eight bits
@@ -57,10 +57,6 @@ module _ (t : List Edges) (s : ℕ) (e : s ≡ next (λ q. eightEdge t q) 0 6553
 
 -- ---- the second pattern, once begun, and the first up to there
 
-both : (a : Bool) {b : Bool} → b ≡ false → a && b ≡ false
-both true e = e
-both false e = refl
-
 module _ (r : Ready) (p end : ℕ) (h : p < end) where
   pub begun-next : begunAt (r .second) p ≡ true → next (λ q. secondEdge (r .second) q) p end ≡ next (λ q. unmaskedEdge r q) p end
   unfolding unmaskedEdge
@@ -74,7 +70,7 @@ module _ (r : Ready) (p end : ℕ) (h : p < end) where
           by-cases (r .second .acts)
           (λ on.
           let from : leb (r .second .length) p ≡ true = (λ i. sym on i && leb (r .second .length) p) ∙ e in
-          and-true on (le-leb (r .second .length) q (omega (arith, leb-true (r .second .length) p from))))
+          and-intro on (le-leb (r .second .length) q (omega (arith, leb-true (r .second .length) p from))))
           (λ off. absurd (clash e (and-none (leb (r .second .length) p) off)))
 
   -- the first pattern's edges up to where the second begins
@@ -95,7 +91,7 @@ module _ (r : Ready) (p end : ℕ) (h : p < end) where
       let after = leb-false (r .second .length) p from in
       let upto = leb-true (r .second .length) q g in
       absurd
-      (clash (and-true on (eq-eqb (r .second .length) (r .second .length) refl)) (x .none (r .second .length) (omega arith) (omega arith))))
+      (clash (and-intro on (eq-eqb (r .second .length) (r .second .length) refl)) (x .none (r .second .length) (omega arith) (omega arith))))
       (λ g. both (r .second .acts) g))
       (λ off. and-none (leb (r .second .length) q) off) in
       is-next
@@ -122,7 +118,7 @@ module _ (r : Ready) (p end : ℕ) (h : p < end) where
           (λ on.
           let same : eqb q (r .second .length) ≡ true = (λ i. sym on i && eqb q (r .second .length)) ∙ e in
           let at : q ≡ r .second .length = eqb-true q (r .second .length) same in
-          let begun : begunAt (r .second) q ≡ true = and-true on (le-leb (r .second .length) q (omega arith)) in
+          let begun : begunAt (r .second) q ≡ true = and-intro on (le-leb (r .second .length) q (omega arith)) in
           (λ i. cond (begun i) (secondEdge (r .second) q) (firstEdge (r .first) (r .first .origin + q)))
           ∙ or-left (eqb q (r .second .length)) (among (r .second .keys) (q - r .second .length)) same)
           (λ off. absurd (clash e (and-none (eqb q (r .second .length)) off)))
@@ -222,7 +218,7 @@ module _ (r : Ready) (p end : ℕ) (h : p < end) where
         none = λ q a l. both (not (frozen (r .mask1) q)) (both (not (frozen (r .mask2) q)) (y .none q a l));
         some = λ l.
             let n : ℕ = next (λ q. unmaskedEdge r q) p b in
-            and-true (ap not (first-mask n (omega (arith, y .low)) l ∙ e))
-            (and-true (ap not (second-mask n (omega (arith, y .low)) l ∙ g)) (y .some l));
+            and-intro (ap not (first-mask n (omega (arith, y .low)) l ∙ e))
+            (and-intro (ap not (second-mask n (omega (arith, y .low)) l ∙ g)) (y .some l));
       } in
       is-next (is-two x z)

@@ -103,10 +103,6 @@ odd-times i n x e =
 
 -- ---- six outputs
 
--- six bits
-pub six-small : (g : ℕ → ℕ) → ((k : ℕ) → g k < 2) → six g < 64
-six-small g h = omega (arith, h 0, h 1, h 2, h 3, h 4, h 5)
-
 module _ (a : Pattern) (key : ℕ → ℕ) where
   abbrev rows : List (List ℕ)
   rows = rowsOf (keyed key (a .toggles))

@@ -28,8 +28,9 @@ or-parts false b e = (refl, e)
 pub and-none : {a : Bool} (b : Bool) → a ≡ false → a && b ≡ false
 and-none b e = λ i. e i && b
 
-pub and-true : {a b : Bool} → a ≡ true → b ≡ true → a && b ≡ true
-and-true x y = λ i. x i && y i
+pub both : (a : Bool) {b : Bool} → b ≡ false → a && b ≡ false
+both true e = e
+both false e = refl
 
 -- ---- what the next number is
 

@@ -10,13 +10,13 @@ use borrow.Author.Tests.{ltb-true, ltb-false, leb-true, leb-false, lt-ltb, le-lt
 use lib.Dec.{ltb, leb, eqb}
 use lib.ListN.{getD}
 use Rattle.profile.specs.Patterns.{rowsOf}
-use Rattle.profile.proofs.Laws.{cond-case, by-cases, or-left, or-right}
+use Rattle.profile.proofs.Laws.{cond-case, by-cases, or-left, or-right, and-intro}
 use Rattle.level.specs.declared.first.First.{First}
 use Rattle.level.specs.declared.second.Second.{Second}
 use Rattle.level.specs.Next.{next}
 use Rattle.level.specs.Keys.{among, upTo, sixAt}
 use Rattle.level.specs.Ready.{beginsWith, runPixels, runAt, runEdge, timesAt, timesEdge, firstAt, firstEdge, secondEdge}
-use Rattle.level.proofs.Nexts.{clash, or-none, and-none, and-true, Is, next-is, is-next, is-none, next-none, next-ext}
+use Rattle.level.proofs.Nexts.{clash, or-none, and-none, Is, next-is, is-next, is-none, next-none, next-ext, both}
 
 -- toggles of 16 bits
 abbrev pub Small : List ℕ → Type 0
@@ -79,7 +79,7 @@ module _ (f : First) (t : ℕ) (h : t < runPixels f) where
       (λ b.
       let less : t + (x - t % f .length) ≤ runPixels f =
       omega (arith, y .less, y .low, rest-of t (f .repetitions) (f .length) run-pos h) in
-      and-true (le-leb (t + (x - t % f .length)) (runPixels f) less)
+      and-intro (le-leb (t + (x - t % f .length)) (runPixels f) less)
       (by-cases (ltb x (f .length))
       (λ g.
       let on : (t + (x - t % f .length)) % f .length ≡ t % f .length + (x - t % f .length) =
@@ -94,10 +94,6 @@ module _ (f : First) (t : ℕ) (h : t < runPixels f) where
     where
       y : Is (λ q. among (f .keys) q) (t % f .length) (f .length) x
       y = rw e (next-is (λ q. among (f .keys) q) (t % f .length) (f .length) run-mod)
-
-      both : (a : Bool) {b : Bool} → b ≡ false → a && b ≡ false
-      both true e = e
-      both false e = refl
 
 pub run-after : (f : First) (t room : ℕ) → 0 < room → runPixels f ≤ t → room ≡ next (λ j. runEdge f (t + j)) 0 room
 unfolding runEdge
@@ -162,9 +158,9 @@ module _ (f : First) (t room : ℕ) (h : 0 < room) where
           let quotient : (t + (x * f .length - t)) / f .length ≡ x = ap (λ n. n / f .length) here ∙ mul-div-cancel x pos in
           let at : ℕ = t + (x * f .length - t) in
           let found : ltb (at / f .length) 65536 && among (f .keys) (at / f .length) ≡ true =
-          (λ i. ltb (quotient i) 65536 && among (f .keys) (quotient i)) ∙ and-true (lt-ltb x 65536 l) (y .some l) in
+          (λ i. ltb (quotient i) 65536 && among (f .keys) (quotient i)) ∙ and-intro (lt-ltb x 65536 l) (y .some l) in
           or-right (eqb at 0) (eqb (at % f .length) 0 && (ltb (at / f .length) 65536 && among (f .keys) (at / f .length)))
-          (and-true (eq-eqb (at % f .length) 0 (ap (λ n. n % f .length) here ∙ mul-mod-left x (f .length))) found))
+          (and-intro (eq-eqb (at % f .length) 0 (ap (λ n. n % f .length) here ∙ mul-mod-left x (f .length))) found))
 
 -- ---- the levels, case by case
 
@@ -206,7 +202,7 @@ module _ (f : First) (q : ℕ) {v : ℕ} (h : f .start ≤ q) where
 
 pub run-starts : (f : First) → runEdge f 0 ≡ true
 unfolding runEdge
-run-starts f = and-true (le-leb 0 (runPixels f) (omega arith)) (or-left (eqb (0 % f .length) 0) (among (f .keys) (0 % f .length)) (eq-eqb (0 % f .length) 0 (zero-mod (f .length))))
+run-starts f = and-intro (le-leb 0 (runPixels f) (omega arith)) (or-left (eqb (0 % f .length) 0) (among (f .keys) (0 % f .length)) (eq-eqb (0 % f .length) 0 (zero-mod (f .length))))
 
 pub times-starts : (f : First) → timesEdge f 0 ≡ true
 unfolding timesEdge
@@ -221,7 +217,7 @@ first-before f q room h l =
     (λ b.
     let here : q + (f .start - q) ≡ f .start = omega arith in
     let none : f .start - f .start ≡ 0 = omega arith in
-    rw (here, none) (and-true (le-leb (f .start) (f .start) (omega arith)) (first-starts f)))
+    rw (here, none) (and-intro (le-leb (f .start) (f .start) (omega arith)) (first-starts f)))
 
 first-after : (f : First) (q room : ℕ) → f .start ≤ q
     → next (λ j. firstEdge f (q + j)) 0 room

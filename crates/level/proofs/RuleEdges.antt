@@ -9,7 +9,7 @@ use native.Mathlib.Omega.{arith}
 use borrow.Author.Tests.{ltb-true, ltb-false, leb-true, leb-false, lt-ltb, le-ltb, le-leb, lt-leb, eqb-true, eqb-false, eq-eqb, ne-eqb}
 use lib.Dec.{ltb, leb, eqb}
 use lib.ListN.{getD}
-use Rattle.profile.proofs.Laws.{cond-case, by-cases, and-left, and-right, or-left}
+use Rattle.profile.proofs.Laws.{cond-case, by-cases, and-left, and-right, or-left, and-intro}
 use Rattle.profile.specs.Patterns.{not4095, used}
 use Rattle.profile.specs.declared.Mode.the-variants.{Plain}
 use Rattle.profile.specs.declared.Pattern.{Pattern}
@@ -20,7 +20,7 @@ use Rattle.level.specs.Keys.{keyOf, among}
 use Rattle.level.specs.Ready.{runEdge, timesEdge}
 use Rattle.level.specs.Edges.{toggleAt, runEdgeOf, timesEdgeOf}
 use Rattle.level.specs.Made.{keyed}
-use Rattle.level.proofs.Nexts.{clash, and-true, and-none}
+use Rattle.level.proofs.Nexts.{clash, and-none}
 
 -- ---- Booleans
 
@@ -50,7 +50,7 @@ module _ (a : Pattern) (small : Small (a .toggles)) where
   run-toggle : (u x : ℕ) → u < a .length → eqb u x ≡ ltb x (a .length) && eqb u (x * 1)
   run-toggle u x h =
       bool-iff (eqb u x) (ltb x (a .length) && eqb u (x * 1))
-      (λ e. let same = eqb-true u x e in and-true (lt-ltb x (a .length) (omega arith)) (eq-eqb u (x * 1) (omega arith)))
+      (λ e. let same = eqb-true u x e in and-intro (lt-ltb x (a .length) (omega arith)) (eq-eqb u (x * 1) (omega arith)))
       (λ e. let same = eqb-true u (x * 1) (and-right (ltb x (a .length)) (eqb u (x * 1)) e) in eq-eqb u x (omega arith))
 
   pub run-among : (u : ℕ) → u < a .length → among (keyed (λ x. x) (a .toggles)) u ≡ toggleAt (used Plain (a .length)) a 1 u
@@ -118,8 +118,8 @@ module _ (a : Pattern) (small : Small (a .toggles)) where
       (λ z.
       let pos : 0 < a .length = omega (arith, eqb-false (a .length) 0 z) in
       let quotient : t / a .length ≡ x = ap (λ n. n / a .length) at ∙ mul-div-cancel x pos in
-      and-true (eq-eqb (t % a .length) 0 (ap (λ n. n % a .length) at ∙ mul-mod-left x (a .length)))
-      (and-true (lt-ltb (t / a .length) 65536 (omega arith))
+      and-intro (eq-eqb (t % a .length) 0 (ap (λ n. n % a .length) at ∙ mul-mod-left x (a .length)))
+      (and-intro (lt-ltb (t / a .length) 65536 (omega arith))
       (eq-eqb (t / a .length) (keyOf x) (quotient ∙ (λ i. cond (sym g i) 65536 x)))))))
 
   pub times-rule : (f : First) (t : ℕ) → f .length ≡ a .length → f .keys ≡ keyed (λ x. keyOf x) (a .toggles) → timesEdge f t ≡ timesEdgeOf a t

@@ -10,7 +10,7 @@ use native.Mathlib.Omega.{arith}
 use borrow.Author.Tests.{ltb-true, ltb-false, leb-true, leb-false, lt-ltb, le-ltb, le-leb, lt-leb, eqb-false, eq-eqb}
 use lib.Dec.{ltb, leb, eqb}
 use lib.ListN.{getD}
-use Rattle.profile.proofs.Laws.{by-cases, or-left}
+use Rattle.profile.proofs.Laws.{by-cases, or-left, and-intro}
 use Rattle.profile.specs.Patterns.{rowOf, not4095, used}
 use Rattle.profile.specs.declared.Mode.the-variants.{Plain}
 use Rattle.profile.specs.declared.Pattern.{Pattern}
@@ -60,7 +60,7 @@ use Rattle.level.specs.Edges.{
   edgeOf,
 }
 use Rattle.level.specs.Ready.{edgesAt, edgesEdge, noEdges, eightAt, eightEdge}
-use Rattle.level.proofs.Nexts.{clash, or-parts, and-none, and-true, any-none}
+use Rattle.level.proofs.Nexts.{clash, or-parts, and-none, any-none}
 use Rattle.level.proofs.Parts.{run-has-length}
 
 -- ---- tests
@@ -194,7 +194,7 @@ times-stays a t k e h =
 run-starts : (a : Pattern) (r : ℕ) → runEdgeOf a r 0 ≡ true
 unfolding runEdgeOf
 run-starts a r =
-    and-true (le-leb 0 (r * a .length) (omega arith))
+    and-intro (le-leb 0 (r * a .length) (omega arith))
     (or-left (eqb (0 % a .length) 0) (toggleAt (used Plain (a .length)) a 1 (0 % a .length)) (eq-eqb (0 % a .length) 0 (zero-mod (a .length))))
 
 times-starts : (a : Pattern) → timesEdgeOf a 0 ≡ true
