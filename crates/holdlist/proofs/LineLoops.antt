@@ -13,9 +13,9 @@ use Rattle.profile.proofs.Laws.{chunks-none}
 use Rattle.level.specs.declared.Line.{Line}
 use Rattle.level.specs.Word.{wordOf}
 use Rattle.level.specs.Fieldwords.{lineWords}
-use Rattle.level.specs.Edges.{Stretch, stopAfter, stretchesFrom, stretchesOf, stretchEnds, stretchWords}
+use Rattle.level.specs.Edges.{Stretch, stopAfter, stretchesOf, stretchEnds, stretchWords}
 use Rattle.level.proofs.Words.{line-words-length, line-words-at}
-use Rattle.level.proofs.Stopping.{stop-is, stretches-few, stretch-below, stretch-end, stretch-word, stretch-left}
+use Rattle.level.proofs.Stopping.{stop-is, stretches-few, Along, stretch-below, stretch-end, stretch-word, along-more}
 use Rattle.holdlist.specs.declared.Step.{Step}
 use Rattle.holdlist.specs.Fills.{Fills}
 use Rattle.holdlist.proofs.Fills.{fills-as, fills-none, fills-more, Filling, filling, hold-few}
@@ -98,18 +98,17 @@ stretches-lent l es ws {es′} {ws′} {n} a b en ee ew =
 -- the stretch that is next, after k of them
 pub record Reached (l : Line) (ends shown : List ℕ) (p k : ℕ) : Type 0 where
   pub lent : Lent l ends shown
-  pub paced : k ≤ p
-  pub left : drop k (stretchesOf l) ≡ stretchesFrom l (l .length - k) p
+  pub along : Along l p k
 
 module _ {l : Line} {ends shown : List ℕ} {p k : ℕ} (x : Reached l ends shown p k) (h : p < l .length) where
   pub next-below : k < l .length
-  next-below = omega (arith, stretch-below l p k (x .paced) (x .left) h, stretches-few l)
+  next-below = omega (arith, stretch-below (x .along) h, stretches-few l)
 
   pub next-stop : getD ends k 0 ≡ stopAfter l p
-  next-stop = x .lent .ends k (stretch-below l p k (x .paced) (x .left) h) ∙ stretch-end l p k (x .paced) (x .left) h
+  next-stop = x .lent .ends k (stretch-below (x .along) h) ∙ stretch-end (x .along) h
 
   pub next-word : getD shown k 0 ≡ wordOf l p
-  next-word = x .lent .words k (stretch-below l p k (x .paced) (x .left) h) ∙ stretch-word l p k (x .paced) (x .left) h
+  next-word = x .lent .words k (stretch-below (x .along) h) ∙ stretch-word (x .along) h
 
   pub next-later : p < getD ends k 0
   next-later = omega (arith, next-stop, stop-is l p h .later)
@@ -118,9 +117,4 @@ module _ {l : Line} {ends shown : List ℕ} {p k : ℕ} (x : Reached l ends show
   next-within = omega (arith, next-stop, stop-is l p h .within)
 
   pub next-reached : Reached l ends shown (getD ends k 0) (k + 1)
-  next-reached =
-      record {
-        lent = x .lent;
-        paced = omega (arith, next-later, x .paced);
-        left = stretch-left l p k (x .paced) (x .left) h ∙ ap (stretchesFrom l (l .length - (k + 1))) (sym next-stop);
-      }
+  next-reached = record { lent = x .lent; along = along-more (x .along) h next-stop }

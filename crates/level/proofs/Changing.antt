@@ -16,7 +16,7 @@ use Rattle.profile.specs.declared.Profile.{Profile}
 use Rattle.profile.specs.declared.Verdict.{Verdict}
 use Rattle.profile.specs.declared.Ruleset.{Ruleset}
 use Rattle.profile.proofs.Laws.{cond-case, tested-yes}
-use Rattle.profile.proofs.Lines.{before-more, before-all, before-below, before-later, has-pixel, has-both}
+use Rattle.profile.proofs.Lines.{before-more, before-all, before-below, before-later, has-both}
 use Rattle.level.specs.declared.Line.{Line}
 use Rattle.level.specs.declared.Edge.{Edge}
 use Rattle.level.specs.Line.{lineOf}

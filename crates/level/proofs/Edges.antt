@@ -6,12 +6,11 @@ use mathlib.Core.List.{List}
 use Prim.Native.Nat.{ℕ, _+_, _-_, _*_, _≤_, _<_}
 use native.Mathlib.Nat.{add-assoc}
 use native.Mathlib.Omega.{arith}
-use borrow.Author.Tests.{ltb-true, ltb-false, leb-true, leb-false, le-leb, lt-leb, eqb-true, eq-eqb}
+use borrow.Author.Tests.{ltb-true, ltb-false, leb-true, leb-false, le-leb, eqb-true, eq-eqb}
 use lib.Dec.{ltb, leb, eqb}
 use lib.ListN.{getD}
-use Rattle.profile.proofs.Laws.{by-cases, or-left, or-right, and-intro}
+use Rattle.profile.proofs.Laws.{by-cases, or-left, and-intro}
 use Rattle.level.specs.Word.{frozen, shownAt}
-use Rattle.level.specs.declared.Mask.{Mask}
 use Rattle.level.specs.declared.others.Edges.{Edges}
 use Rattle.level.specs.declared.ready.Ready.{Ready}
 use Rattle.level.specs.Next.{next}

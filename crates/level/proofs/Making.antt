@@ -2,18 +2,18 @@
 -- Assumes nothing.
 use mathlib.Core.Path.{_≡_, refl, sym, ap, _∙_}
 use mathlib.Core.Bool.{Bool, true, false, cond, not, _&&_, _||_}
-use mathlib.Core.List.{List, [], _∷_, map}
-use Prim.Native.Nat.{ℕ, zero, suc, _+_, _-_, _*_, _/_, _%_, _≤_, _<_}
+use mathlib.Core.List.{List, map}
+use Prim.Native.Nat.{ℕ, _+_, _-_, _*_, _/_, _%_, _≤_, _<_}
 use native.Mathlib.Nat.{le-div-iff-mul-le, mod-lt, mul-zero, div-one, div-add-mod', add-mul, mul-assoc, mul-comm}
 use native.Mathlib.Omega.{arith}
-use borrow.Author.Tests.{ltb-true, ltb-false, leb-true, leb-false, lt-ltb, le-ltb, le-leb, lt-leb, eqb-true, eqb-false, eq-eqb, ne-eqb}
+use borrow.Author.Tests.{ltb-true, ltb-false, leb-true, leb-false, lt-ltb, le-ltb, le-leb, lt-leb, eqb-true, eqb-false}
 use lib.Dec.{ltb, leb, eqb}
 use lib.ListN.{getD}
 use Rattle.profile.proofs.Laws.{cond-case, by-cases}
 use Rattle.profile.specs.Patterns.{rowOf, rowsOf, not4095, used}
 use Rattle.profile.specs.declared.Mode.the-variants.{Plain}
 use Rattle.profile.specs.declared.Pattern.{Pattern}
-use Rattle.level.specs.Word.{bit, flipped, within, flips, startLevel, usedToggles, runFlips, runToggles, firstLevel, secondLevel, unmasked, frozen, shownAt, six, vWord, wordOf}
+use Rattle.level.specs.Word.{bit, flipped, within, flips, startLevel, runFlips, runToggles, firstLevel, secondLevel, unmasked, frozen, shownAt, six, vWord, wordOf}
 use Rattle.level.specs.declared.Run.the-variants.{Afresh, Carried, Multiplied}
 use Rattle.level.specs.Keys.{keyOf, among, upTo, passed, sixAt}
 use Rattle.level.specs.declared.Line.{Line}
@@ -21,21 +21,15 @@ use Rattle.level.specs.declared.Mask.{Mask}
 use Rattle.level.specs.declared.first.First.{First}
 use Rattle.level.specs.Ready.{beginsWith, runAt, timesAt, firstAt}
 use Rattle.level.specs.Made.{firstWord, secondWord, othersWord, keyed, Makes}
-use Rattle.level.specs.Edges.{firstEdgeOf, secondEdgeOf, unmaskedEdgeOf, othersEdge, edgeOf}
-use Rattle.level.specs.Edges.{maskEdge}
+use Rattle.level.specs.Edges.{firstEdgeOf, secondEdgeOf, unmaskedEdgeOf}
 use Rattle.level.proofs.Parts.{Small, run-has-length, up-to-most}
-use Rattle.level.proofs.RuleEdges.{run-rule, times-rule, used-among}
+use Rattle.level.proofs.RuleEdges.{bool-iff, run-rule, times-rule, used-among}
+use Rattle.level.proofs.Stays.{never-within}
 
 -- ---- one toggle: its key is below the count where it is used and passed
 
 leb-iff : (a b c d : ℕ) → (a ≤ b → c ≤ d) → (c ≤ d → a ≤ b) → leb a b ≡ leb c d
-leb-iff a b c d f g =
-    by-cases (leb a b)
-    (λ e. e ∙ sym (le-leb c d (f (leb-true a b e))))
-    (λ e.
-    by-cases (leb c d)
-    (λ h. let x = leb-false a b e in absurd (omega (arith, g (leb-true c d h))))
-    (λ h. e ∙ sym h))
+leb-iff a b c d f g = bool-iff (leb a b) (leb c d) (λ e. le-leb c d (f (leb-true a b e))) (λ e. le-leb a b (g (leb-true c d e)))
 
 ltb-leb : (x n : ℕ) → ltb x (n + 1) ≡ leb x n
 ltb-leb x n =
@@ -85,21 +79,17 @@ twice x m n = omega arith
 
 -- ---- a number of repetitions
 
+-- n flips a repetition: two repetitions leave the level
+in-twos : (i n : ℕ) → i * n ≡ i / 2 * n * 2 + i % 2 * n
+in-twos i n =
+    ap (λ j. j * n) (sym (div-add-mod' i 2)) ∙ add-mul (i / 2 * 2) (i % 2) n
+    ∙ ap (λ j. j + i % 2 * n) (mul-assoc (i / 2) 2 n ∙ ap (λ j. i / 2 * j) (mul-comm 2 n) ∙ sym (mul-assoc (i / 2) n 2))
+
 even-times : (i n x : ℕ) → i % 2 ≡ 0 → flipped x (i * n) ≡ x % 2
-even-times i n x e =
-    let whole : i / 2 * 2 + i % 2 ≡ i = div-add-mod' i 2 in
-    let two : i ≡ i / 2 * 2 = omega arith in
-    let twos : i * n ≡ i / 2 * n * 2 = ap (λ j. j * n) two ∙ mul-assoc (i / 2) 2 n ∙ ap (λ j. i / 2 * j) (mul-comm 2 n) ∙ sym (mul-assoc (i / 2) n 2) in
-    omega arith
+even-times i n x e = let none : i % 2 * n ≡ 0 * n = ap (λ j. j * n) e in omega (arith, in-twos i n)
 
 odd-times : (i n x : ℕ) → i % 2 ≡ 1 → flipped x (i * n) ≡ flipped x n
-odd-times i n x e =
-    let whole : i / 2 * 2 + i % 2 ≡ i = div-add-mod' i 2 in
-    let two : i ≡ i / 2 * 2 + 1 = omega arith in
-    let twos : i * n ≡ i / 2 * n * 2 + 1 * n =
-    ap (λ j. j * n) two ∙ add-mul (i / 2 * 2) 1 n
-    ∙ ap (λ j. j + 1 * n) (mul-assoc (i / 2) 2 n ∙ ap (λ j. i / 2 * j) (mul-comm 2 n) ∙ sym (mul-assoc (i / 2) n 2)) in
-    omega arith
+odd-times i n x e = let one : i % 2 * n ≡ 1 * n = ap (λ j. j * n) e in omega (arith, in-twos i n)
 
 -- ---- six outputs
 
@@ -134,8 +124,9 @@ module _ (a : Pattern) (key : ℕ → ℕ) where
   start-small : (k : ℕ) → startLevel a k < 2
   start-small k = omega arith
 
-  pub start-bits : sixAt (a .levels) rows 0 ≡ six (λ k. startLevel a k)
-  start-bits = six-out 0 (λ y k. y) (λ x k. none-passed x (keyRow key a k))
+  -- the start levels, from keys made of the toggles
+  start-bits : {L : ℕ} {keys : List ℕ} → keys ≡ keyed key (a .toggles) → L ≡ sixAt (a .levels) (rowsOf keys) 0 → L ≡ six (λ k. startLevel a k)
+  start-bits ek el = el ∙ ap (λ k. sixAt (a .levels) (rowsOf k) 0) ek ∙ six-out 0 (λ y k. y) (λ x k. none-passed x (keyRow key a k))
 
 six-ext : (f g : ℕ → ℕ) → ((k : ℕ) → f k ≡ g k) → six f ≡ six g
 six-ext f g h = λ i. six (λ k. h k i)
@@ -146,6 +137,11 @@ start-even a k = omega arith
 module _ (a : Pattern) (small : Small (a .toggles)) (start r : ℕ) where
   abbrev plain : ℕ → ℕ
   plain x = x
+
+  -- the first pattern made ready, with the levels that even and odd repetitions begin with
+  abbrev made : Bool → ℕ → ℕ → List ℕ → ℕ → First
+  made times L T keys origin =
+      record { times = times; levels = L; turned = T; length = a .length; keys = keys; start = start; origin = origin; repetitions = r }
 
   pub turned-bits : sixAt (a .levels) (rows a plain) (a .length) ≡ six (λ k. flipped (startLevel a k) (runToggles a k))
   turned-bits =
@@ -180,19 +176,19 @@ module _ (a : Pattern) (small : Small (a .toggles)) (start r : ℕ) where
   -- version 1: each repetition starts afresh
   pub afresh-makes : (origin L : ℕ) (keys : List ℕ) → keys ≡ keyed plain (a .toggles) → L ≡ sixAt (a .levels) (rowsOf keys) 0 → L < 64
       → Makes
-      (record { times = false; levels = L; turned = L; length = a .length; keys = keys; start = start; origin = origin; repetitions = r })
+      (made false L L keys origin)
       origin (λ q. firstWord Afresh a start r q) (λ q. firstEdgeOf Afresh a start r q)
   unfolding firstWord
   afresh-makes origin L keys ek el small64 =
-      let levels : L ≡ six (λ k. startLevel a k) = el ∙ ap (λ k. sixAt (a .levels) (rowsOf k) 0) ek ∙ start-bits a plain in
+      let levels = start-bits a plain ek el in
       record {
         levels = small64;
         turned = small64;
         place = refl;
-        edges = λ q. ap (λ b. leb start q && b) (run-rule a small (record { times = false; levels = L; turned = L; length = a .length; keys = keys; start = start; origin = origin; repetitions = r }) (q - start) refl ek);
+        edges = λ q. ap (λ b. leb start q && b) (run-rule a small (made false L L keys origin) (q - start) refl ek);
         same = λ q.
             run-out
-            (record { times = false; levels = L; turned = L; length = a .length; keys = keys; start = start; origin = origin; repetitions = r })
+            (made false L L keys origin)
             refl refl ek refl refl (λ i k. startLevel a k) (λ i k. start-small a plain k) levels
             (λ i. cond-case (λ x. x ≡ six (λ k. startLevel a k)) (eqb (i % 2) 0) L L (λ e. levels) (λ e. levels)) q;
       }
@@ -201,7 +197,7 @@ module _ (a : Pattern) (small : Small (a .toggles)) (start r : ℕ) where
   pub carried-makes : (origin L T : ℕ) (keys : List ℕ) → keys ≡ keyed plain (a .toggles) → L ≡ sixAt (a .levels) (rowsOf keys) 0 → L < 64
       → T ≡ sixAt (a .levels) (rowsOf keys) (a .length) → T < 64
       → Makes
-      (record { times = false; levels = L; turned = T; length = a .length; keys = keys; start = start; origin = origin; repetitions = r })
+      (made false L T keys origin)
       origin (λ q. firstWord Carried a start r q) (λ q. firstEdgeOf Carried a start r q)
   unfolding firstWord
   carried-makes origin L T keys ek el ls et ts =
@@ -209,10 +205,10 @@ module _ (a : Pattern) (small : Small (a .toggles)) (start r : ℕ) where
         levels = ls;
         turned = ts;
         place = refl;
-        edges = λ q. ap (λ b. leb start q && b) (run-rule a small (record { times = false; levels = L; turned = T; length = a .length; keys = keys; start = start; origin = origin; repetitions = r }) (q - start) refl ek);
+        edges = λ q. ap (λ b. leb start q && b) (run-rule a small (made false L T keys origin) (q - start) refl ek);
         same = λ q.
             run-out
-            (record { times = false; levels = L; turned = T; length = a .length; keys = keys; start = start; origin = origin; repetitions = r })
+            (made false L T keys origin)
             refl refl ek refl refl (λ i k. flipped (startLevel a k) (i * runToggles a k)) (λ i k. omega arith) levels begins q
             ∙ six-ext _ _
             (λ k j.
@@ -223,7 +219,7 @@ module _ (a : Pattern) (small : Small (a .toggles)) (start r : ℕ) where
       }
     where
       levels : L ≡ six (λ k. startLevel a k)
-      levels = el ∙ ap (λ k. sixAt (a .levels) (rowsOf k) 0) ek ∙ start-bits a plain
+      levels = start-bits a plain ek el
 
       begins : (i : ℕ) → cond (eqb (i % 2) 0) L T ≡ six (λ k. flipped (startLevel a k) (i * runToggles a k))
       begins i =
@@ -248,7 +244,7 @@ module _ (a : Pattern) (small : Small (a .toggles)) (start r : ℕ) where
 
   pub multiplied-makes : (origin L : ℕ) (keys : List ℕ) → keys ≡ keyed (λ x. keyOf x) (a .toggles) → L ≡ sixAt (a .levels) (rowsOf keys) 0 → L < 64
       → Makes
-      (record { times = true; levels = L; turned = L; length = a .length; keys = keys; start = start; origin = origin; repetitions = r })
+      (made true L L keys origin)
       origin (λ q. firstWord Multiplied a start r q) (λ q. firstEdgeOf Multiplied a start r q)
   unfolding firstWord timesAt
   multiplied-makes origin L keys ek el small64 =
@@ -256,7 +252,7 @@ module _ (a : Pattern) (small : Small (a .toggles)) (start r : ℕ) where
         levels = small64;
         turned = small64;
         place = refl;
-        edges = λ q. ap (λ b. leb start q && b) (times-rule a small (record { times = true; levels = L; turned = L; length = a .length; keys = keys; start = start; origin = origin; repetitions = r }) (q - start) refl ek);
+        edges = λ q. ap (λ b. leb start q && b) (times-rule a small (made true L L keys origin) (q - start) refl ek);
         same = λ q.
             (λ i. cond (ltb q start) (levels i) (sixAt (levels i) (rowsOf (ek i)) (cond (eqb (a .length) 0) 65536 (upTo 65535 ((q - start) / a .length) + 1))))
             ∙ by-cases (ltb q start)
@@ -277,7 +273,7 @@ module _ (a : Pattern) (small : Small (a .toggles)) (start r : ℕ) where
       }
     where
       levels : L ≡ six (λ k. startLevel a k)
-      levels = el ∙ ap (λ k. sixAt (a .levels) (rowsOf k) 0) ek ∙ start-bits a (λ x. keyOf x)
+      levels = start-bits a (λ x. keyOf x) ek el
 
       out : (n t : ℕ) → ((x : ℕ) → x < 65536 → ltb (keyOf x) n ≡ not (eqb x 4095) && leb (x * a .length) t)
           → sixAt (six (λ k. startLevel a k)) (rows a (λ x. keyOf x)) n
@@ -359,7 +355,4 @@ span-turns level from to p h =
 
 -- one that ends before it starts has no span
 pub span-none : (level from to p : ℕ) → to < from → flipped (level % 2 + 1) 0 ≡ flipped level (cond (within from to p) 0 1)
-span-none level from to p h =
-    by-cases (leb from p)
-    (λ e. rw (e, le-ltb p to (omega (arith, leb-true from p e))) (omega arith))
-    (λ e. rw e (omega arith))
+span-none level from to p h = rw (never-within p h) (omega arith)

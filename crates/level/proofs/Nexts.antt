@@ -2,11 +2,11 @@
 -- what does not change without an event stays up to it.
 -- Assumes nothing.
 use mathlib.Core.Path.{_≡_, refl, sym, ap, _∙_}
-use mathlib.Core.Bool.{Bool, true, false, cond, not, _&&_, _||_}
+use mathlib.Core.Bool.{Bool, true, false, cond, _&&_, _||_}
 use Prim.Native.Nat.{ℕ, zero, suc, _+_, _-_, _≤_, _<_}
 use native.Mathlib.Omega.{arith}
 use native.Mathlib.Numerals.{add-one}
-use borrow.Author.Tests.{ltb-true, ltb-false, leb-true, leb-false, eqb-true, eqb-false, eq-eqb, ne-eqb}
+use borrow.Author.Tests.{ltb-true, ltb-false, le-ltb, leb-true, leb-false, eqb-true, eqb-false, eq-eqb, ne-eqb}
 use lib.Dec.{ltb, leb, eqb}
 use Rattle.profile.proofs.Laws.{cond-case, by-cases, or-left, or-right}
 use Rattle.level.specs.Word.{bit}
@@ -197,11 +197,9 @@ next-one x p end h l =
       some = λ k. eq-eqb x x refl;
     })
 
-pub next-past : (x p end : ℕ) → p < end → x ≤ p → end ≡ next (λ q. eqb q x) p end
-next-past x p end h l = next-none h (λ q a b. ne-eqb q x (λ e. omega arith))
-
-pub next-beyond : (x p end : ℕ) → p < end → end ≤ x → end ≡ next (λ q. eqb q x) p end
-next-beyond x p end h l = next-none h (λ q a b. ne-eqb q x (λ e. omega arith))
+-- not between
+pub next-outside : (x p end : ℕ) → p < end → (p < x → end ≤ x) → end ≡ next (λ q. eqb q x) p end
+next-outside x p end h out = next-none h (λ q a b. ne-eqb q x (λ e. omega (arith, out (omega arith))))
 
 -- the lower of the best so far and a number, where the number is above n
 pub next-lower : (x n best end : ℕ) → n < best → best ≤ end → upTo best (cond (ltb n x) x end) ≡ next (λ q. eqb q x) n best
@@ -210,11 +208,8 @@ next-lower x n best end h l =
     (λ e.
     by-cases (ltb x best)
     (λ g. rw (e, g) (next-one x n best (ltb-true n x e) (ltb-true x best g)))
-    (λ g. rw (e, g) (next-beyond x n best h (ltb-false x best g))))
-    (λ e. rw (e, le-ltb′ best end l) (next-past x n best h (ltb-false n x e)))
-  where
-    le-ltb′ : (a b : ℕ) → a ≤ b → ltb b a ≡ false
-    le-ltb′ a b k = by-cases (ltb b a) (λ e. absurd (omega (arith, ltb-true b a e))) (λ e. e)
+    (λ g. rw (e, g) (next-outside x n best h (λ k. ltb-false x best g))))
+    (λ e. rw (e, le-ltb end best l) (next-outside x n best h (λ k. absurd (omega (arith, ltb-false n x e)))))
 
 -- ---- one of several
 

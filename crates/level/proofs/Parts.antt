@@ -1,12 +1,12 @@
 -- Where the next edge of each part is: of the keys, the first pattern's run or multiple, the second pattern. And the first pattern's levels, case by case.
 -- Assumes nothing.
 use mathlib.Core.Path.{_≡_, refl, sym, ap, _∙_}
-use mathlib.Core.Bool.{Bool, true, false, cond, not, _&&_, _||_}
+use mathlib.Core.Bool.{Bool, true, false, cond, _&&_, _||_}
 use mathlib.Core.List.{List}
 use Prim.Native.Nat.{ℕ, zero, suc, _+_, _-_, _*_, _/_, _%_, _≤_, _<_}
 use native.Mathlib.Nat.{mul-zero, mod-lt, mod-zero, mod-eq-of-lt, mod-add-mod, mod-self, zero-mod, div-add-mod', div-lt-iff-lt-mul, div-mul-le-self, mul-le-mul, add-mul, one-mul, mul-mod-left, mul-div-cancel}
 use native.Mathlib.Omega.{arith}
-use borrow.Author.Tests.{ltb-true, ltb-false, leb-true, leb-false, lt-ltb, le-ltb, le-leb, lt-leb, eqb-true, eqb-false, eq-eqb, ne-eqb}
+use borrow.Author.Tests.{ltb-true, ltb-false, lt-ltb, le-ltb, le-leb, lt-leb, eqb-true, eq-eqb, ne-eqb}
 use lib.Dec.{ltb, leb, eqb}
 use lib.ListN.{getD}
 use Rattle.profile.specs.Patterns.{rowsOf}
@@ -16,7 +16,7 @@ use Rattle.level.specs.declared.second.Second.{Second}
 use Rattle.level.specs.Next.{next}
 use Rattle.level.specs.Keys.{among, upTo, sixAt}
 use Rattle.level.specs.Ready.{beginsWith, runPixels, runAt, runEdge, timesAt, timesEdge, firstAt, firstEdge, secondEdge}
-use Rattle.level.proofs.Nexts.{clash, or-none, and-none, Is, next-is, is-next, is-none, next-none, next-ext, both}
+use Rattle.level.proofs.Nexts.{or-none, and-none, Is, next-is, is-next, is-none, next-none, next-ext, both}
 
 -- toggles of 16 bits
 abbrev pub Small : List ℕ → Type 0
@@ -41,14 +41,23 @@ up-to-most bound n = cond-case (λ x. x ≤ bound) (ltb n bound) _ _ (λ e. omeg
 
 -- ---- the place in a repetition
 
+-- j pixels on: in the same repetition, and at its end
+pub mod-on : (t l j : ℕ) → t % l + j < l → (t + j) % l ≡ t % l + j
+mod-on t l j h = sym (mod-add-mod t l j) ∙ mod-eq-of-lt h
+
+pub mod-turn : (t l j : ℕ) → t % l + j ≡ l → (t + j) % l ≡ 0
+mod-turn t l j e = sym (mod-add-mod t l j) ∙ ap (λ n. n % l) e ∙ mod-self l
+
+pub next-multiple : (k l : ℕ) → (k + 1) * l ≡ k * l + l
+next-multiple k l = add-mul k 1 l ∙ ap (λ n. k * l + n) (one-mul l)
+
 pub rest-of : (t r l : ℕ) → 0 < l → t < r * l → t + (l - t % l) ≤ r * l
 rest-of t r l pos h =
     let whole : t / l * l + t % l ≡ t = div-add-mod' t l in
     let below : t / l < r = div-lt-iff-lt-mul pos .1 h in
     let more : (t / l + 1) * l ≤ r * l = mul-le-mul {n₁ = t / l + 1} {m₁ = l} {n₂ = r} {m₂ = l} (omega arith) (omega arith) in
-    let split : (t / l + 1) * l ≡ t / l * l + l = add-mul (t / l) 1 l ∙ ap (λ n. t / l * l + n) (one-mul l) in
     let u : t % l < l = mod-lt t pos in
-    omega arith
+    omega (arith, next-multiple (t / l) l)
 
 module _ (f : First) (t : ℕ) (h : t < runPixels f) where
   pub run-pos : 0 < f .length
@@ -56,13 +65,6 @@ module _ (f : First) (t : ℕ) (h : t < runPixels f) where
 
   pub run-mod : t % f .length < f .length
   run-mod = mod-lt t run-pos
-
-  -- j pixels on, in the same repetition
-  pub run-on : (j : ℕ) → t % f .length + j < f .length → (t + j) % f .length ≡ t % f .length + j
-  run-on j k = sym (mod-add-mod t (f .length) j) ∙ mod-eq-of-lt k
-
-  run-turn : (j : ℕ) → t % f .length + j ≡ f .length → (t + j) % f .length ≡ 0
-  run-turn j e = sym (mod-add-mod t (f .length) j) ∙ ap (λ n. n % f .length) e ∙ mod-self (f .length)
 
   -- the next toggle, or the repetition's end
   pub run-inside : (room x : ℕ) → 0 < room → x ≡ next (λ q. among (f .keys) q) (t % f .length) (f .length)
@@ -72,7 +74,7 @@ module _ (f : First) (t : ℕ) (h : t < runPixels f) where
       next-cut (x - t % f .length) room (omega (arith, y .low)) l
       (λ j a b.
       let k : t % f .length + j < x = omega arith in
-      let on : (t + j) % f .length ≡ t % f .length + j = run-on j (omega (arith, y .less)) in
+      let on : (t + j) % f .length ≡ t % f .length + j = mod-on t (f .length) j (omega (arith, y .less)) in
       let no = y .none (t % f .length + j) (omega arith) k in
       both (leb (t + j) (runPixels f))
       (or-none (ap (λ n. eqb n 0) on ∙ ne-eqb (t % f .length + j) 0 (λ z. omega arith)) (ap (λ n. among (f .keys) n) on ∙ no)))
@@ -83,14 +85,14 @@ module _ (f : First) (t : ℕ) (h : t < runPixels f) where
       (by-cases (ltb x (f .length))
       (λ g.
       let on : (t + (x - t % f .length)) % f .length ≡ t % f .length + (x - t % f .length) =
-      run-on (x - t % f .length) (omega (arith, y .low, ltb-true x (f .length) g)) in
+      mod-on t (f .length) (x - t % f .length) (omega (arith, y .low, ltb-true x (f .length) g)) in
       let here : t % f .length + (x - t % f .length) ≡ x = omega (arith, y .low) in
       or-right (eqb ((t + (x - t % f .length)) % f .length) 0) (among (f .keys) ((t + (x - t % f .length)) % f .length))
       (ap (λ n. among (f .keys) n) (on ∙ here) ∙ y .some (ltb-true x (f .length) g)))
       (λ g.
       let end : t % f .length + (x - t % f .length) ≡ f .length = omega (arith, y .low, y .less, ltb-false x (f .length) g) in
       or-left (eqb ((t + (x - t % f .length)) % f .length) 0) (among (f .keys) ((t + (x - t % f .length)) % f .length))
-      (eq-eqb ((t + (x - t % f .length)) % f .length) 0 (run-turn (x - t % f .length) end)))))
+      (eq-eqb ((t + (x - t % f .length)) % f .length) 0 (mod-turn t (f .length) (x - t % f .length) end)))))
     where
       y : Is (λ q. among (f .keys) q) (t % f .length) (f .length) x
       y = rw e (next-is (λ q. among (f .keys) q) (t % f .length) (f .length) run-mod)
@@ -200,16 +202,14 @@ module _ (f : First) (q : ℕ) {v : ℕ} (h : f .start ≤ q) where
   first-at-run off e =
       e ∙ (λ i. cond (sym (le-ltb q (f .start) h) i) (f .levels) (cond (sym off i) (timesAt f (q - f .start)) (runAt f (q - f .start))))
 
-pub run-starts : (f : First) → runEdge f 0 ≡ true
-unfolding runEdge
-run-starts f = and-intro (le-leb 0 (runPixels f) (omega arith)) (or-left (eqb (0 % f .length) 0) (among (f .keys) (0 % f .length)) (eq-eqb (0 % f .length) 0 (zero-mod (f .length))))
+-- a run's start is an edge, whatever its length and its toggles
+pub start-edge : (n l : ℕ) (toggle : Bool) → leb 0 n && (eqb (0 % l) 0 || toggle) ≡ true
+start-edge n l toggle = and-intro (le-leb 0 n (omega arith)) (or-left (eqb (0 % l) 0) toggle (eq-eqb (0 % l) 0 (zero-mod l)))
 
-pub times-starts : (f : First) → timesEdge f 0 ≡ true
-unfolding timesEdge
-times-starts f = rw (eq-eqb 0 0 refl)
-
-pub first-starts : (f : First) → cond (f .times) (timesEdge f 0) (runEdge f 0) ≡ true
-first-starts f = cond-case (λ b. b ≡ true) (f .times) _ _ (λ e. times-starts f) (λ e. run-starts f)
+first-starts : (f : First) → cond (f .times) (timesEdge f 0) (runEdge f 0) ≡ true
+unfolding timesEdge runEdge
+first-starts f =
+    cond-case (λ b. b ≡ true) (f .times) _ _ (λ e. rw (eq-eqb 0 0 refl)) (λ e. start-edge (runPixels f) (f .length) _)
 
 pub first-before : (f : First) (q room : ℕ) → 0 < room → q < f .start → upTo room (f .start - q) ≡ next (λ j. firstEdge f (q + j)) 0 room
 first-before f q room h l =

@@ -1,15 +1,15 @@
 -- The edges of a line made ready are those of the rules.
 -- Assumes nothing.
 use mathlib.Core.Path.{_≡_, refl, sym, ap, _∙_}
-use mathlib.Core.Bool.{Bool, true, false, cond, not, _&&_, _||_}
+use mathlib.Core.Bool.{Bool, true, false, cond, not, _&&_, _||_, or-false}
 use mathlib.Core.List.{List}
-use Prim.Native.Nat.{ℕ, zero, suc, _+_, _-_, _*_, _/_, _%_, _≤_, _<_}
-use native.Mathlib.Nat.{mod-lt, mod-zero, mul-mod-left, mul-div-cancel, mul-zero, div-add-mod', zero-mod}
+use Prim.Native.Nat.{ℕ, zero, suc, _+_, _-_, _*_, _/_, _%_, _<_}
+use native.Mathlib.Nat.{mod-lt, mul-mod-left, mul-div-cancel, mul-zero, div-add-mod', zero-mod}
 use native.Mathlib.Omega.{arith}
-use borrow.Author.Tests.{ltb-true, ltb-false, leb-true, leb-false, lt-ltb, le-ltb, le-leb, lt-leb, eqb-true, eqb-false, eq-eqb, ne-eqb}
+use borrow.Author.Tests.{ltb-true, leb-true, lt-ltb, eqb-true, eqb-false, eq-eqb, ne-eqb}
 use lib.Dec.{ltb, leb, eqb}
 use lib.ListN.{getD}
-use Rattle.profile.proofs.Laws.{cond-case, by-cases, and-left, and-right, or-left, and-intro}
+use Rattle.profile.proofs.Laws.{by-cases, and-left, and-right, or-left, and-intro}
 use Rattle.profile.specs.Patterns.{not4095, used}
 use Rattle.profile.specs.declared.Mode.the-variants.{Plain}
 use Rattle.profile.specs.declared.Pattern.{Pattern}
@@ -24,7 +24,7 @@ use Rattle.level.proofs.Nexts.{clash, and-none}
 
 -- ---- Booleans
 
-bool-iff : (a b : Bool) → (a ≡ true → b ≡ true) → (b ≡ true → a ≡ true) → a ≡ b
+pub bool-iff : (a b : Bool) → (a ≡ true → b ≡ true) → (b ≡ true → a ≡ true) → a ≡ b
 bool-iff true b f g = sym (f refl)
 bool-iff false true f g = g refl
 bool-iff false false f g = refl
@@ -34,10 +34,6 @@ unfolding anyOf
 any-and true k g = refl
 any-and false zero g = refl
 any-and false (suc k) g = any-and false k g ∙ sym (or-false (anyOf k (λ j. false)))
-  where
-    or-false : (a : Bool) → a || false ≡ a
-    or-false true = refl
-    or-false false = refl
 
 -- the keys of a pattern's toggles
 keyed-among : (key : ℕ → ℕ) (l : List ℕ) (x : ℕ) → among (keyed key l) x ≡ anyOf 18 (λ k. eqb x (key (getD l k 0)))

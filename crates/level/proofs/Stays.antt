@@ -5,12 +5,12 @@ use mathlib.Core.Path.{_≡_, refl, sym, ap, _∙_}
 use mathlib.Core.Bool.{Bool, true, false, cond, not, _&&_, _||_}
 use mathlib.Core.List.{List}
 use Prim.Native.Nat.{ℕ, _+_, _-_, _*_, _/_, _%_, _≤_, _<_}
-use native.Mathlib.Nat.{mod-lt, mod-eq-of-lt, mod-add-mod, mod-self, mul-mod-left, div-add-mod', div-eq-of-lt-le, zero-mod, add-mul, one-mul}
+use native.Mathlib.Nat.{mod-lt, mul-mod-left, div-add-mod', div-eq-of-lt-le}
 use native.Mathlib.Omega.{arith}
 use borrow.Author.Tests.{ltb-true, ltb-false, leb-true, leb-false, lt-ltb, le-ltb, le-leb, lt-leb, eqb-false, eq-eqb}
 use lib.Dec.{ltb, leb, eqb}
 use lib.ListN.{getD}
-use Rattle.profile.proofs.Laws.{by-cases, or-left, and-intro}
+use Rattle.profile.proofs.Laws.{by-cases}
 use Rattle.profile.specs.Patterns.{rowOf, not4095, used}
 use Rattle.profile.specs.declared.Mode.the-variants.{Plain}
 use Rattle.profile.specs.declared.Pattern.{Pattern}
@@ -21,30 +21,7 @@ use Rattle.level.specs.declared.Pulse.{Pulse}
 use Rattle.level.specs.declared.Span.{Span}
 use Rattle.level.specs.declared.Line.{Line}
 use Rattle.level.specs.declared.others.Edges.{Edges}
-use Rattle.level.specs.Word.{
-  bit,
-  flipped,
-  flips,
-  within,
-  startLevel,
-  runFlips,
-  runToggles,
-  runLevel,
-  carriedLevel,
-  timesLevel,
-  firstLevel,
-  secondLevel,
-  unmasked,
-  frozen,
-  shownAt,
-  vLevel,
-  pulseLevel,
-  noPulse,
-  spanLevel,
-  vWord,
-  gateWord,
-  wordOf,
-}
+use Rattle.level.specs.Word.{bit, flipped, flips, within, startLevel, runFlips, runToggles, firstLevel, secondLevel, unmasked, frozen, vLevel, pulseLevel, noPulse, spanLevel, vWord, gateWord, wordOf}
 use Rattle.level.specs.Next.{anyOf}
 use Rattle.level.specs.Edges.{
   toggleAt,
@@ -61,7 +38,7 @@ use Rattle.level.specs.Edges.{
 }
 use Rattle.level.specs.Ready.{edgesAt, edgesEdge, noEdges, eightAt, eightEdge}
 use Rattle.level.proofs.Nexts.{clash, or-parts, and-none, any-none}
-use Rattle.level.proofs.Parts.{run-has-length}
+use Rattle.level.proofs.Parts.{run-has-length, mod-on, mod-turn, next-multiple, start-edge}
 
 -- ---- tests
 
@@ -108,15 +85,12 @@ mod-step t l pos e =
     by-cases (ltb (t % l + 1) l) (λ h. ltb-true _ _ h)
     (λ h.
     let full : t % l + 1 ≡ l = omega (arith, ltb-false (t % l + 1) l h) in
-    absurd (eqb-false ((t + 1) % l) 0 e (sym (mod-add-mod t l 1) ∙ ap (λ n. n % l) full ∙ mod-self l)))
-
-mod-next : (t l : ℕ) → t % l + 1 < l → (t + 1) % l ≡ t % l + 1
-mod-next t l h = sym (mod-add-mod t l 1) ∙ mod-eq-of-lt h
+    absurd (eqb-false ((t + 1) % l) 0 e (mod-turn t l 1 full)))
 
 div-same : (t l : ℕ) → t % l + 1 < l → (t + 1) / l ≡ t / l
 div-same t l h =
     let whole : t / l * l + t % l ≡ t = div-add-mod' t l in
-    let split : (t / l + 1) * l ≡ t / l * l + l = add-mul (t / l) 1 l ∙ ap (λ n. t / l * l + n) (one-mul l) in
+    let split = next-multiple (t / l) l in
     div-eq-of-lt-le l {m = t + 1} (omega arith) (omega arith)
 
 -- ---- plain and sweep: either in the same repetition with no toggle between, or after the run
@@ -144,7 +118,7 @@ run-where a r t e within after =
     or-parts (eqb ((t + 1) % a .length) 0) (toggleAt (used Plain (a .length)) a 1 ((t + 1) % a .length))
     ((λ i. sym g i && (eqb ((t + 1) % a .length) 0 || toggleAt (used Plain (a .length)) a 1 ((t + 1) % a .length))) ∙ e) in
     let u : t % a .length + 1 < a .length = mod-step t (a .length) pos (parts .0) in
-    let on : (t + 1) % a .length ≡ t % a .length + 1 = mod-next t (a .length) u in
+    let on : (t + 1) % a .length ≡ t % a .length + 1 = mod-on t (a .length) 1 u in
     let still : t + 1 < r * a .length =
     by-cases (ltb (t + 1) (r * a .length)) (λ k. ltb-true _ _ k)
     (λ k.
@@ -193,9 +167,7 @@ times-stays a t k e h =
 
 run-starts : (a : Pattern) (r : ℕ) → runEdgeOf a r 0 ≡ true
 unfolding runEdgeOf
-run-starts a r =
-    and-intro (le-leb 0 (r * a .length) (omega arith))
-    (or-left (eqb (0 % a .length) 0) (toggleAt (used Plain (a .length)) a 1 (0 % a .length)) (eq-eqb (0 % a .length) 0 (zero-mod (a .length))))
+run-starts a r = start-edge (r * a .length) (a .length) _
 
 times-starts : (a : Pattern) → timesEdgeOf a 0 ≡ true
 unfolding timesEdgeOf
@@ -304,6 +276,13 @@ pulse-stays g p e =
     λ i. flipped (g .level) (cond (g .acts) (bit (x i) + bit (y i)) 0))
     (λ a. rw a)
 
+-- a span that ends before it starts has no pixel
+pub never-within : {from to : ℕ} (p : ℕ) → to < from → within from to p ≡ false
+never-within {from} {to} p h =
+    by-cases (leb from p)
+    (λ g. rw (g, le-ltb p to (omega (arith, leb-true from p g))))
+    (λ g. rw g)
+
 span-stays : (s : Span) (p : ℕ) → spanEdge s (p + 1) ≡ false → spanLevel s (p + 1) ≡ spanLevel s p
 span-stays s p e =
     by-cases (leb (s .from) (s .to))
@@ -314,13 +293,7 @@ span-stays s p e =
     λ i. flipped (s .level) (cond (x i && y i) 0 1))
     (λ a.
     let none = leb-false (s .from) (s .to) a in
-    ap (λ b. flipped (s .level) (cond b 0 1)) (never none (p + 1) ∙ sym (never none p)))
-  where
-    never : s .to < s .from → (q : ℕ) → within (s .from) (s .to) q ≡ false
-    never h q =
-        by-cases (leb (s .from) q)
-        (λ g. rw (g, le-ltb q (s .to) (omega (arith, leb-true (s .from) q g))))
-        (λ g. rw g)
+    ap (λ b. flipped (s .level) (cond b 0 1)) (never-within (p + 1) none ∙ sym (never-within p none)))
 
 -- the eight made ready
 pub eight-stays : (t : List Edges) (p : ℕ) → eightEdge t (p + 1) ≡ false → eightAt t (p + 1) ≡ eightAt t p

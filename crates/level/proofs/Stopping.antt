@@ -3,7 +3,7 @@
 -- Assumes nothing.
 use mathlib.Core.Path.{_≡_, refl, sym, ap, _∙_}
 use mathlib.Core.Logic.{_⊎_, inl, inr}
-use mathlib.Core.Bool.{Bool, true, false}
+use mathlib.Core.Bool.{true}
 use mathlib.Core.List.{List, [], _∷_, _++_}
 use Prim.Native.Nat.{ℕ, zero, suc, _+_, _-_, _≤_, _<_}
 use native.Mathlib.Nat.{add-zero}
@@ -22,7 +22,7 @@ use Rattle.level.specs.Next.{next}
 use Rattle.level.specs.Edges.{edgeOf, stopAfter, Stop, Stretch, stretchesFrom, stretchesOf, stretchEnds, stretchWords}
 use Rattle.level.specs.Ready.{readyEdge}
 use Rattle.level.specs.Made.{ReadyFor}
-use Rattle.level.proofs.Nexts.{clash, Is, next-is, is-next, next-on, stays}
+use Rattle.level.proofs.Nexts.{next-is, is-next, next-on, stays}
 use Rattle.level.proofs.Stays.{word-stays}
 use Rattle.level.proofs.Filling.{Filled, filled-none, filled-more, filled-over}
 
@@ -81,16 +81,22 @@ from-few l (suc n) p =
 pub stretches-few : (l : Line) → length (stretchesOf l) ≤ l .length
 stretches-few l = from-few l (l .length) 0
 
-pub stretches-first : (l : Line) → drop 0 (stretchesOf l) ≡ stretchesFrom l (l .length - 0) 0
-stretches-first l = let all : l .length ≡ l .length - 0 = omega arith in ap (λ n. stretchesFrom l n 0) all
+-- n of them lead up to pixel p, and those from there on are left
+pub record Along (l : Line) (p n : ℕ) : Type 0 where
+  pub paced : n ≤ p
+  pub left : drop n (stretchesOf l) ≡ stretchesFrom l (l .length - n) p
 
-module _ (l : Line) (p n : ℕ) (paced : n ≤ p) (left : drop n (stretchesOf l) ≡ stretchesFrom l (l .length - n) p) where
+pub along-none : (l : Line) → Along l 0 0
+along-none l =
+    record { paced = omega arith; left = let all : l .length ≡ l .length - 0 = omega arith in ap (λ n. stretchesFrom l n 0) all }
+
+module _ {l : Line} {p n : ℕ} (x : Along l p n) where
   module _ (h : p < l .length) where
     here : drop n (stretchesOf l) ≡ record { word = wordOf l p; end = stopAfter l p } ∷ stretchesFrom l (l .length - (n + 1)) (stopAfter l p)
     unfolding stretchesFrom
     here =
-        let more : l .length - n ≡ suc (l .length - (n + 1)) = omega arith in
-        left ∙ rw (more, lt-ltb p (l .length) h)
+        let more : l .length - n ≡ suc (l .length - (n + 1)) = omega (arith, x .paced) in
+        x .left ∙ rw (more, lt-ltb p (l .length) h)
 
     at : getD (stretchesOf l) n none ≡ record { word = wordOf l p; end = stopAfter l p }
     at =
@@ -106,14 +112,19 @@ module _ (l : Line) (p n : ℕ) (paced : n ≤ p) (left : drop n (stretchesOf l)
     pub stretch-word : getD (stretchWords l) n 0 ≡ wordOf l p
     stretch-word = List·getD-map (λ (s : Stretch). s .word) (stretchesOf l) n none ∙ ap (λ (s : Stretch). s .word) at
 
-    pub stretch-left : drop (n + 1) (stretchesOf l) ≡ stretchesFrom l (l .length - (n + 1)) (stopAfter l p)
-    stretch-left = sym (drop-drop 1 n (stretchesOf l)) ∙ ap (λ (r : List Stretch). drop 1 r) here
+    -- one more, up to the stop
+    pub along-more : {s : ℕ} → s ≡ stopAfter l p → Along l s (n + 1)
+    along-more e =
+        record {
+          paced = omega (arith, e, stop-is l p h .later, x .paced);
+          left = sym (drop-drop 1 n (stretchesOf l)) ∙ ap (λ (r : List Stretch). drop 1 r) here ∙ ap (stretchesFrom l (l .length - (n + 1))) (sym e);
+        }
 
   -- at the line's end none is left
   pub stretch-none : l .length ≤ p → length (stretchesOf l) ≤ n
   unfolding stretchesFrom
   stretch-none h =
-      let rest : length (drop n (stretchesOf l)) ≡ 0 = ap (λ (r : List Stretch). length r) (left ∙ past (l .length - n)) in
+      let rest : length (drop n (stretchesOf l)) ≡ 0 = ap (λ (r : List Stretch). length r) (x .left ∙ past (l .length - n)) in
       omega (arith, length-drop n (stretchesOf l))
     where
       past : (m : ℕ) → stretchesFrom l m p ≡ []
@@ -122,36 +133,33 @@ module _ (l : Line) (p n : ℕ) (paced : n ≤ p) (left : drop n (stretchesOf l)
 
 -- ---- a line's stretches written from the front, one a turn
 
--- n of them are written, up to pixel p, and those from p on are left
+-- n of them are written, up to pixel p
 pub record Stretching (l : Line) (es ws es′ ws′ : List ℕ) (p n : ℕ) : Type 0 where
   pub within : p ≤ l .length
-  pub paced : n ≤ p
+  pub along : Along l p n
   pub few : n ≤ length (stretchesOf l)
-  pub left : drop n (stretchesOf l) ≡ stretchesFrom l (l .length - n) p
   pub ends : Filled (λ k. getD (stretchEnds l) k 0) es es′ n
   pub words : Filled (λ k. getD (stretchWords l) k 0) ws ws′ n
 
 pub stretching-none : (l : Line) (es ws : List ℕ) → Stretching l es ws es ws 0 0
 stretching-none l es ws =
-    record { within = omega arith; paced = omega arith; few = omega arith; left = stretches-first l; ends = filled-none; words = filled-none }
+    record { within = omega arith; along = along-none l; few = omega arith; ends = filled-none; words = filled-none }
 
 module _ {l : Line} {es ws es′ ws′ : List ℕ} {p n : ℕ} (x : Stretching l es ws es′ ws′ p n) where
   pub stretching-more : p < l .length → {s w : ℕ} → s ≡ stopAfter l p → w ≡ wordOf l p → n < length es′ → n < length ws′
       → Stretching l es ws (set es′ n s) (set ws′ n w) s (n + 1)
   stretching-more h {s} {w} e g a b =
-      let stop = stop-is l p h in
       record {
-        within = rw e (stop .within);
-        paced = omega (arith, e, stop .later, x .paced);
-        few = omega (arith, stretch-below l p n (x .paced) (x .left) h);
-        left = stretch-left l p n (x .paced) (x .left) h ∙ ap (stretchesFrom l (l .length - (n + 1))) (sym e);
-        ends = filled-more (x .ends) a (e ∙ sym (stretch-end l p n (x .paced) (x .left) h));
-        words = filled-more (x .words) b (g ∙ sym (stretch-word l p n (x .paced) (x .left) h));
+        within = rw e (stop-is l p h .within);
+        along = along-more (x .along) h e;
+        few = omega (arith, stretch-below (x .along) h);
+        ends = filled-more (x .ends) a (e ∙ sym (stretch-end (x .along) h));
+        words = filled-more (x .words) b (g ∙ sym (stretch-word (x .along) h));
       }
 
   -- all are written at the line's end
   pub stretching-all : l .length ≤ p → n ≡ length (stretchesOf l)
-  stretching-all h = omega (arith, stretch-none l p n (x .paced) (x .left) h, x .few)
+  stretching-all h = omega (arith, stretch-none (x .along) h, x .few)
 
   -- what is written
   pub stretched-ends : es′ ≡ over (take n (stretchEnds l)) es

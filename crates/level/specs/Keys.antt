@@ -2,7 +2,7 @@
 -- Each toggle has a key: it is passed where its key is below a count of pixels. The key of an unused toggle is 65536, which no count passes.
 -- Assumes nothing.
 use Prim.Native.Nat.{ℕ, _+_, _*_, _/_}
-use mathlib.Core.List.{List, [], _∷_}
+use mathlib.Core.List.{List, []}
 use mathlib.Core.Bool.{Bool, cond}
 use lib.ListN.{getD}
 use lib.Dec.{ltb, eqb}

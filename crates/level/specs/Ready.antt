@@ -3,13 +3,12 @@
 -- Assumes nothing.
 use Prim.Native.Nat.{ℕ, _+_, _-_, _*_, _/_, _%_, _<_}
 use mathlib.Core.Path.{_≡_}
-use mathlib.Core.List.{List, [], _∷_}
+use mathlib.Core.List.{List}
 use mathlib.Core.Bool.{Bool, cond, not, _&&_, _||_}
 use lib.ListN.{getD}
 use lib.Dec.{ltb, leb, eqb}
 use Rattle.profile.specs.Patterns.{rowsOf}
 use Rattle.level.specs.Word.{bit, flipped, frozen, shownAt}
-use Rattle.level.specs.declared.Mask.{Mask}
 use Rattle.level.specs.declared.first.First.{First}
 use Rattle.level.specs.declared.second.Second.{Second}
 use Rattle.level.specs.declared.others.Edges.{Edges}

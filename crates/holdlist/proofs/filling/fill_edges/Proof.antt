@@ -2,10 +2,9 @@
 -- Assumes nothing.
 use Prim.Native.Nat.{_-_, _≤_, _<_}
 use native.Mathlib.Omega.{arith}
-use mathlib.Core.Path.{_≡_}
 use lib.ListN.{getD}
 use borrow.Author.Needs.{needs}
-use Rattle.level.proofs.Stopping.{stretches-first, words-stop}
+use Rattle.level.proofs.Stopping.{along-none, words-stop}
 use Rattle.holdlist.proofs.LineLoops.{Pushed, pushed-start, pushed-counted, pushed-steps, pushed-more, pushed-all, stretches-lent, Reached, next-below, next-stop, next-word, next-later, next-within, next-reached}
 use Rattle.holdlist.proofs.filling.fill_edges.Statement.{statement}
 use Rattle.holdlist.proofs.filling.fill_edges.Tie as tie
@@ -24,8 +23,7 @@ loop-holds c =
       pushed-start (s .args .line) _ _ _ (s .pre .1) (search needs) (search needs),
       record {
         lent = stretches-lent (s .args .line) (s .args .ends .now) (s .args .shown .now) (omega (arith, s .pre .0)) (omega (arith, s .pre .0)) (e .0) (e .1 .0) (e .1 .1);
-        paced = omega arith;
-        left = stretches-first (s .args .line);
+        along = along-none (s .args .line);
       },
       s .pre .0,
     )

@@ -1,6 +1,6 @@
 -- The loop has pushed the lines passed (`Turns`); each turn pushes the next, made of what the region's lines share, into what is free of both lists.
 -- Assumes nothing.
-use Prim.Native.Nat.{_+_, _-_, _≤_, _<_, _^_}
+use Prim.Native.Nat.{_-_, _≤_}
 use native.Mathlib.Omega.{arith}
 use lib.ListN.{length}
 use mathlib.Core.Path.{_≡_, ap}

@@ -2,7 +2,6 @@
 -- Assumes nothing.
 use mathlib.Core.Path.{_∙_}
 use Rattle.level.specs.Strips.{lineOn}
-use Rattle.level.specs.declared.Strip.{Strip}
 use Rattle.level.proofs.Words.{strip-line}
 use borrow.Author.Needs.{needs}
 use Rattle.level.proofs.lines.line_in.Statement.{statement}

@@ -3,7 +3,6 @@
 use mathlib.Core.Path.{_≡_, _∙_, ap}
 use Rattle.profile.specs.Geometry.{sequenceOf}
 use Rattle.profile.specs.declared.Region.{Region}
-use Rattle.profile.specs.declared.Sequence.{Sequence}
 use Rattle.level.specs.Strips.{stripWith}
 use borrow.Author.Needs.{needs}
 use Rattle.level.proofs.lines.strip_of.Statement.{statement}
