@@ -1,6 +1,6 @@
 #!/usr/bin/env bash
 # Asks the entry points and a second implementation, reference/, the same questions and compares every answer, byte by byte: the stored batch, and
-# a random one with a fresh seed (CASES_SEED=N repeats one). Then breaks one rule in each of seven copies of the second implementation, which must be noticed.
+# a random one with a fresh seed (CASES_SEED=N repeats one). Then breaks one rule in each of nine copies of the second implementation, which must be noticed.
 set -u
 cd "$(dirname "$0")/.." || exit 1
 program=$PWD/target/bin/cases
@@ -63,6 +63,8 @@ broken "a field pixel is looked for as if the last line had its sequence's lengt
 broken "after the last run the level returns, by version 2 too" word.rs 's/let ended = if running { t \/ length } else { r };/let ended = if running { t \/ length } else { 0 };/'
 broken "the next edge is looked for on the asked line alone" edge.rs 's/for number in line\.\.profile\.field\.lines as u64/for number in line..line + 1/'
 broken "the next edge is told as the pixel before it" edge.rs 's/Ok(Some((number, edge)))/Ok(Some((number, edge.saturating_sub(1))))/'
+broken "bytes are not counted after a refusal" upload.rs 's/demand(total <= SCRIPT_MOST as u64,/demand(upload.refused().is_some() || total <= SCRIPT_MOST as u64,/'
+broken "bytes held past the end of their record count" upload.rs 's/&self\.room\[\.\.held\.min(whole)\]/\&self.room[..held.min(whole.max(held))]/'
 
 # a batch at fault: one line on standard error, and no answer
 fault() {
@@ -76,6 +78,12 @@ fault "a payload too long" 'R\1\0\1\0'
 fault "a kind that is none" 'X\0\0\0\0'
 fault "a profile too short" 'C\2\0\0\0ab'
 zeros() { printf '\\0%.0s' $(seq "$1"); }
+fault "chunks without the lengths that they say" 'U\6\0\0\0\2\0\2\0\1\0'
+fault "chunks without a whole number of lengths" 'U\3\0\0\0\2\0\0'
+fault "chunks of a script too long" "U\105\234\0\0$(zeros 4)$(printf %40001s)"
+fault "a state that is not whole" "V\117\3\0\0$(zeros 847)"
+fault "a state without the lengths that it says" "V\124\3\0\0$(zeros 848)\2\0\1\0"
+fault "a state with too many bytes behind it" "V\223\237\0\0$(zeros 850)$(printf %40001s)"
 fault "a next edge without a whole pixel" "E\13\3\0\0$(zeros 779)"
 fault "a next edge with a byte too many" "E\15\3\0\0$(zeros 781)"
 fault "a compile from edge to edge without the counts it says" "J\4\3\0\0$(zeros 764)\1\0\0\0$(zeros 4)"

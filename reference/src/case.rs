@@ -7,6 +7,7 @@ use crate::refusal::Refusal;
 use crate::rules::check;
 use crate::script::{read, write};
 use crate::text::text_by;
+use crate::upload::{cut, read_chunks, read_on, Upload, ROOM};
 use crate::word::{level_by, locate};
 use std::fmt::{Display, Write as _};
 
@@ -15,10 +16,13 @@ pub const PAYLOAD_MOST: usize = 65_536;
 pub const SCRIPT_MOST_IN_A_CASE: usize = 40_000;
 pub const ENTRIES_MOST: usize = 4096;
 
-/// One question to one entry point. A version may be any number.
+/// One question to one entry point. A version may be any number. Lengths are
+/// those of all chunks but the last; bytes follow what an upload has got.
 #[derive(Clone, PartialEq, Eq, Debug)]
 pub enum Case {
     Read { script: Vec<u8> },
+    ReadChunks { version: u16, lengths: Vec<u16>, script: Vec<u8> },
+    ReadOn { upload: Upload, version: u16, lengths: Vec<u16>, bytes: Vec<u8> },
     Check { profile: Profile },
     Write { profile: Profile, slice: Vec<u8> },
     Level { profile: Profile, version: u16, line: u64, pixel: u64 },
@@ -45,6 +49,8 @@ impl Case {
     pub fn kind(&self) -> char {
         match self {
             Case::Read { .. } => 'R',
+            Case::ReadChunks { .. } => 'U',
+            Case::ReadOn { .. } => 'V',
             Case::Check { .. } => 'C',
             Case::Write { .. } => 'W',
             Case::Level { .. } => 'L',
@@ -71,6 +77,18 @@ impl Case {
         let mut out = Vec::new();
         match self {
             Case::Read { script } => put_script(&mut out, script),
+            Case::ReadChunks { version, lengths, script } => {
+                out.extend(version.to_le_bytes());
+                put_chunk_lengths(&mut out, lengths);
+                put_script(&mut out, script);
+            }
+            Case::ReadOn { upload, version, lengths, bytes } => {
+                put_profile(&mut out, &upload.profile);
+                out.extend(version.to_le_bytes());
+                put_arrived(&mut out, upload);
+                put_chunk_lengths(&mut out, lengths);
+                put_script(&mut out, bytes);
+            }
             Case::Check { profile } => put_profile(&mut out, profile),
             Case::Write { profile, slice } => {
                 put_profile(&mut out, profile);
@@ -118,6 +136,23 @@ fn put_profile(out: &mut Vec<u8>, profile: &Profile) {
     }
 }
 
+/// An upload but for its profile.
+fn put_arrived(out: &mut Vec<u8>, upload: &Upload) {
+    out.extend(upload.length.to_le_bytes());
+    out.extend(upload.number.to_le_bytes());
+    out.extend(upload.place.to_le_bytes());
+    out.extend(upload.held.to_le_bytes());
+    out.extend(upload.room);
+}
+
+/// How many lengths there are, and the lengths.
+fn put_chunk_lengths(out: &mut Vec<u8>, lengths: &[u16]) {
+    let count = u16::try_from(lengths.len()).expect("lengths over their limit");
+    for n in [count].iter().chain(lengths) {
+        out.extend(n.to_le_bytes());
+    }
+}
+
 fn put_lengths(out: &mut Vec<u8>, counts: &[u32], words: &[u16]) {
     assert!(counts.len() <= ENTRIES_MOST && words.len() <= ENTRIES_MOST, "a list over its limit");
     out.extend((counts.len() as u32).to_le_bytes());
@@ -140,6 +175,9 @@ pub fn decode_batch(batch: &[u8]) -> Option<Vec<Case>> {
     while !rest.left.is_empty() {
         let kind = rest.take(1)?[0];
         let length = rest.u32()? as usize;
+        if length > PAYLOAD_MOST {
+            return None;
+        }
         cases.push(decode(kind, rest.take(length)?)?);
     }
     Some(cases)
@@ -150,6 +188,15 @@ fn decode(kind: u8, payload: &[u8]) -> Option<Case> {
     let mut rest = Bytes { left: payload };
     let case = match kind {
         b'R' => Case::Read { script: rest.script()? },
+        b'U' => {
+            let (version, lengths) = (rest.u16()?, rest.chunk_lengths()?);
+            Case::ReadChunks { version, lengths, script: rest.script()? }
+        }
+        b'V' => {
+            let (profile, version) = (rest.profile()?, rest.u16()?);
+            let (upload, lengths) = (rest.upload(profile)?, rest.chunk_lengths()?);
+            Case::ReadOn { upload, version, lengths, bytes: rest.script()? }
+        }
         b'C' => Case::Check { profile: rest.profile()? },
         b'W' => Case::Write { profile: rest.profile()?, slice: rest.all() },
         b'L' | b'E' => {
@@ -230,6 +277,22 @@ impl<'a> Bytes<'a> {
     fn profile(&mut self) -> Option<Profile> {
         Profile::from_numbers(&self.u16s(NUMBERS as u32)?)
     }
+
+    fn upload(&mut self, profile: Profile) -> Option<Upload> {
+        Some(Upload {
+            profile,
+            length: self.u64()?,
+            number: self.u16()?,
+            place: self.u64()?,
+            held: self.u64()?,
+            room: self.take(ROOM)?.try_into().ok()?,
+        })
+    }
+
+    fn chunk_lengths(&mut self) -> Option<Vec<u16>> {
+        let count = self.u16()?;
+        self.u16s(count as u32)
+    }
 }
 
 // ---------------------------------------------------------------------------
@@ -240,10 +303,11 @@ impl<'a> Bytes<'a> {
 pub fn answer(k: usize, case: &Case) -> String {
     let mut out = format!("CASE {k} {}\n", case.kind());
     match case {
-        Case::Read { script } => {
-            let read = read(script);
-            put_line(&mut out, head(&read));
-            put_line(&mut out, read.unwrap_or(Profile::empty()).numbers());
+        Case::Read { script } => put_read(&mut out, read(script)),
+        // What is read is the same by every rule version.
+        Case::ReadChunks { version: _, lengths, script } => put_read(&mut out, read_chunks(&cut(script, lengths))),
+        Case::ReadOn { upload, version: _, lengths, bytes } => {
+            put_read(&mut out, read_on(upload, &cut(bytes, lengths)));
         }
         Case::Check { profile } => put_line(&mut out, head(&check(profile))),
         Case::Write { profile, slice } => {
@@ -285,6 +349,11 @@ pub fn answer(k: usize, case: &Case) -> String {
         Case::Text { version, script } => out += &text_by(*version, script),
     }
     out
+}
+
+fn put_read(out: &mut String, read: Result<Profile, Refusal>) {
+    put_line(out, head(&read));
+    put_line(out, read.unwrap_or(Profile::empty()).numbers());
 }
 
 /// Number, place, output and toggle: all 0 where accepted.

@@ -1,15 +1,17 @@
 //! A second implementation of document 01 ("What will be built, and the
 //! rules", the output and toggle that refusal 10 names, a second gate line of
-//! the field, runs that flip, and the next edge), written from the papers alone.
+//! the field, runs that flip, the next edge, and scripts that arrive in chunks),
+//! written from the papers alone.
 //! It is there to be compared with: clear before fast, and total: every entry
-//! point has an answer for any bytes, any numbers in a profile handed in, any
-//! line, pixel, position and rule version.
+//! point has an answer for any bytes, any numbers in a profile or an upload
+//! handed in, any line, pixel, position and rule version.
 //!
 //! - `profile`: the profile and its parts, and their raw order
 //! - `refusal`: the numbers of refusal
 //! - `ranges`:  refusal 5 for items of a profile
 //! - `rules`:   refusals 6 to 17, and the check
 //! - `script`:  reading and writing
+//! - `upload`:  reading in chunks
 //! - `version`: the rule versions
 //! - `word`:    the word at a line and pixel, and the place of a field pixel
 //! - `edge`:    the next edge
@@ -31,6 +33,7 @@ pub mod script;
 pub mod stops;
 pub mod stored;
 pub mod text;
+pub mod upload;
 pub mod version;
 pub mod word;
 

@@ -1,7 +1,9 @@
-//! Building blocks for the batches: profiles, scripts, lent lists.
+//! Building blocks for the batches: profiles, scripts, uploads, lent lists.
 
 use crate::profile::*;
-use crate::script::{record, records};
+use crate::refusal::CUT_SHORT;
+use crate::script::{record, records, take_records, SCRIPT_MOST};
+use crate::upload::Upload;
 
 /// An output that uses no toggle under any rule.
 pub const UNUSED: [u16; 3] = [4095; 3];
@@ -309,6 +311,37 @@ pub fn raw_record(length: u16, kind: u16, body: &[u8]) -> Vec<u8> {
     out[..2].copy_from_slice(&length.to_le_bytes());
     out.extend(body);
     out
+}
+
+// ---------------------------------------------------------------------------
+// Uploads
+
+/// What the front of a script leaves: the profile of its whole records, what it
+/// has of the next one, or the refusal of one of them. Past 16,384 it is too long,
+/// and counted no further.
+pub fn upload_after(front: &[u8]) -> Upload {
+    let length = front.len().min(SCRIPT_MOST + 1) as u64;
+    let mut upload = Upload { length, ..Upload::start() };
+    match take_records(front, 0, &mut upload.profile) {
+        Ok(()) => {}
+        Err(r) if r.number == CUT_SHORT => hold(&mut upload, &front[r.place as usize..]),
+        Err(r) => {
+            upload.number = r.number as u16;
+            upload.place = r.place;
+        }
+    }
+    upload
+}
+
+/// Puts bytes in the room's front, and says that as many are held.
+pub fn hold(upload: &mut Upload, bytes: &[u8]) {
+    upload.room[..bytes.len()].copy_from_slice(bytes);
+    upload.held = bytes.len() as u64;
+}
+
+/// Lengths of chunks of one length, enough for so many bytes.
+pub fn chunks_of(length: u16, bytes: &[u8]) -> Vec<u16> {
+    vec![length; bytes.len().div_ceil(length as usize)]
 }
 
 // ---------------------------------------------------------------------------

@@ -157,10 +157,11 @@ impl Profile {
 
     /// "Pattern k has 12 registers from address 12k." Word 0: start levels and
     /// length. Words 1..9: the 18 toggles V1 first to V6 third, low half then
-    /// high half. Words 10, 11: freeze 1, resume 1, freeze 2, resume 2.
+    /// high half. Words 10, 11: freeze 1, resume 1, freeze 2, resume 2. A number
+    /// past the last pattern is one of zeros.
     pub fn pattern(&self, k: u16) -> Pattern {
         let from = HALVES_OF_A_PATTERN * k as usize;
-        let half = |i: usize| self.registers[from + i] as u64;
+        let half = |i: usize| self.registers.get(from + i).copied().unwrap_or(0) as u64;
         let mut toggles = [[0; 3]; OUTPUTS];
         for output in 0..OUTPUTS {
             for i in 0..3 {
@@ -168,7 +169,7 @@ impl Profile {
             }
         }
         Pattern {
-            levels: self.registers[from],
+            levels: half(0) as u16,
             length: half(1),
             toggles,
             freeze: [half(20), half(22)],
@@ -176,14 +177,15 @@ impl Profile {
         }
     }
 
-    /// The sequence of a region; the region's number is in range.
+    /// The sequence of a region; an absent one where it names none of the ten.
     pub fn sequence_of(&self, region: usize) -> &Sequence {
-        &self.sequences[self.field.regions[region].sequence as usize]
+        const ABSENT: Sequence = Sequence { present: false, pattern: 0, length: 0, start: 0, odd: 0, even: 0, mask: 0 };
+        self.sequences.get(self.field.regions[region].sequence as usize).unwrap_or(&ABSENT)
     }
 
-    /// The regions in use, 0 to n - 1.
+    /// The regions in use, 0 to n - 1; there are never more than seven.
     pub fn regions(&self) -> &[Region] {
-        &self.field.regions[..self.field.count as usize]
+        &self.field.regions[..(self.field.count as usize).min(REGIONS)]
     }
 }
 

@@ -10,6 +10,7 @@ use crate::ranges::check_ranges;
 use crate::rules::{check, gate_lines, line_length, region_of_line, region_size, repetitions};
 use crate::script::{records, SCRIPT_MOST};
 use crate::stops::{place_before, stops, Stop};
+use crate::upload::{Upload, ROOM};
 use std::collections::BTreeSet;
 
 /// A batch of `count` cases; the same seed gives the same batch.
@@ -56,6 +57,11 @@ impl Rng {
         let z = (z ^ (z >> 30)).wrapping_mul(0xBF58_476D_1CE4_E5B9);
         let z = (z ^ (z >> 27)).wrapping_mul(0x94D0_49BB_1331_11EB);
         z ^ (z >> 31)
+    }
+
+    /// Another one, whose draws leave this one where it is.
+    fn apart(&self) -> Rng {
+        Rng { state: !self.state }
     }
 
     fn below(&mut self, n: u64) -> u64 {
@@ -858,6 +864,169 @@ fn padded(rng: &mut Rng, script: Vec<u8>) -> Vec<u8> {
 }
 
 // ---------------------------------------------------------------------------
+// Chunks
+
+fn chunks_case(rng: &mut Rng, script: Vec<u8>) -> Case {
+    let cuts = cuts(rng, &script);
+    Case::ReadChunks { version: version(rng), lengths: lengths(rng, &cuts, 0), script }
+}
+
+/// What the front of a script leaves, with the rest behind it; half of them
+/// spoilt, as no upload would be.
+fn read_on_case(rng: &mut Rng, script: Vec<u8>) -> Case {
+    let cuts = cuts(rng, &script);
+    let at = match rng.below(10) {
+        0 => 0,
+        1..=5 if !cuts.is_empty() => rng.pick(&cuts),
+        _ => rng.between(0, script.len() as u64) as usize,
+    };
+    let mut upload = upload_after(&script[..at]);
+    let mut bytes = script[at..].to_vec();
+    if rng.percent(50) {
+        spoil(rng, &mut upload, bytes.len() as u64);
+        if rng.percent(20) {
+            bytes.clear();
+        }
+    }
+    Case::ReadOn { upload, version: version(rng), lengths: lengths(rng, &cuts, at), bytes }
+}
+
+/// More cuts would not go into a payload with the longest script.
+const CUTS_MOST: usize = 12_000;
+
+/// Where a script is cut, by rising offsets: nowhere, into chunks of one length,
+/// often of one byte, into small chunks, many of them empty, or at a few places.
+fn cuts(rng: &mut Rng, script: &[u8]) -> Vec<usize> {
+    let every = |length: usize| (length..=script.len()).step_by(length).take(CUTS_MOST).collect();
+    match rng.below(10) {
+        0 => vec![],
+        1 => every(1),
+        2 => every(rng.between(2, 60) as usize),
+        3..=5 => {
+            let mut cuts = vec![0];
+            while cuts[cuts.len() - 1] < script.len() && cuts.len() < CUTS_MOST {
+                let any = rng.below(61) as usize;
+                let length = rng.pick(&[0, 0, 0, 1, 1, 1, 2, 3, 4, 5, 8, 14, any]);
+                cuts.push((cuts[cuts.len() - 1] + length).min(script.len()));
+            }
+            cuts
+        }
+        _ => {
+            let count = rng.between(1, 6);
+            let mut cuts: Vec<usize> = (0..count).map(|_| a_cut(rng, script)).collect();
+            cuts.sort();
+            cuts
+        }
+    }
+}
+
+/// Around the most that a script may have, where it is so long; in the header of
+/// a record, around its end, or anywhere in it.
+fn a_cut(rng: &mut Rng, script: &[u8]) -> usize {
+    if script.len() + 2 >= SCRIPT_MOST && rng.percent(50) {
+        return (SCRIPT_MOST + 2 - rng.below(5) as usize).min(script.len());
+    }
+    let starts = record_starts(script);
+    let which = rng.below(starts.len() as u64) as usize;
+    let start = starts[which];
+    let end = starts.get(which + 1).copied().unwrap_or(script.len());
+    let any = rng.between(start as u64, end as u64) as usize;
+    let into = rng.below(6) as usize;
+    rng.pick(&[start + into, start + into, end.saturating_sub(1), any]).min(script.len())
+}
+
+/// Where records begin, by the lengths that they say; the first always at 0.
+fn record_starts(script: &[u8]) -> Vec<usize> {
+    let mut starts = vec![0];
+    let mut at = 0;
+    while at + 4 <= script.len() {
+        at += 4 + u16::from_le_bytes([script[at], script[at + 1]]) as usize;
+        if at < script.len() {
+            starts.push(at);
+        }
+    }
+    starts
+}
+
+/// The lengths of the chunks between cuts, those at or after an offset; sometimes
+/// more lengths than there are bytes for.
+fn lengths(rng: &mut Rng, cuts: &[usize], from: usize) -> Vec<u16> {
+    let mut lengths = Vec::new();
+    let mut before = from;
+    for cut in cuts.iter().filter(|cut| **cut >= from) {
+        lengths.push((cut - before) as u16);
+        before = *cut;
+    }
+    if rng.percent(20) {
+        lengths.extend([rng.pick(&[0, 1, 100, 65_535]), rng.pick(&[0, 65_535])]);
+    }
+    lengths
+}
+
+/// Puts numbers into an upload that need not belong together; so many bytes
+/// follow it.
+fn spoil(rng: &mut Rng, upload: &mut Upload, following: u64) {
+    for _ in 0..rng.between(1, 4) {
+        match rng.below(10) {
+            0..=2 => upload.length = any_length(rng, upload.length, following),
+            3 | 4 => {
+                upload.number = rng.pick(&[0, 1, 2, 3, 3, 4, 4, 5, 5, 6, 17, 255, 259, 260, 65_535]);
+                upload.place = if rng.percent(50) { rng.below(SCRIPT_MOST as u64) } else { rng.wide(3) };
+            }
+            5 | 6 => upload.held = any_held(rng),
+            7 | 8 => put_in_room(rng, upload),
+            _ => upload.profile = any_profile(rng),
+        }
+    }
+}
+
+/// A few bytes, about as many as with the following make the most, or any.
+fn any_length(rng: &mut Rng, length: u64, following: u64) -> u64 {
+    match rng.below(8) {
+        0 | 1 => rng.below(60),
+        2 => length + rng.below(30),
+        3..=5 => (SCRIPT_MOST as u64 + 2).saturating_sub(following + rng.below(5)),
+        6 => rng.pick(&[16_384, 16_385, u64::MAX - 57, u64::MAX]),
+        _ => rng.wide(100),
+    }
+}
+
+fn any_held(rng: &mut Rng) -> u64 {
+    match rng.below(8) {
+        0..=4 => rng.edgy(0, ROOM as u64 + 1),
+        5 => rng.pick(&[8, 18, 58]),
+        6 => u64::MAX,
+        _ => rng.wide(8),
+    }
+}
+
+/// A record or two in the room, right or not, behind them what was there, or
+/// small numbers; and most often as many bytes held, or more.
+fn put_in_room(rng: &mut Rng, upload: &mut Upload) {
+    if rng.percent(40) {
+        upload.room = [0; ROOM].map(|_| rng.below(60) as u8);
+    }
+    let mut records = short_records(&valid(rng, TINY));
+    rng.shuffle(&mut records);
+    records.truncate(rng.between(1, 2) as usize);
+    match rng.below(4) {
+        0 => damage_header(rng, &mut records),
+        1 => move_in_record(rng, &mut records),
+        _ => {}
+    }
+    let mut bytes = records.concat();
+    bytes.truncate(ROOM);
+    let first = records[0].len() as u64;
+    hold(upload, &bytes);
+    upload.held = match rng.below(6) {
+        0 | 1 => first,
+        2 => first.saturating_sub(rng.between(1, 4)),
+        3 => upload.held,
+        _ => any_held(rng),
+    };
+}
+
+// ---------------------------------------------------------------------------
 // Rooms, places, lists
 
 /// A slice around the bytes needed.
@@ -991,9 +1160,19 @@ fn length_or_9(p: &Profile, line: u64) -> u64 {
     }
 }
 
+/// A script, read whole or in chunks; for chunks now and then one of about the
+/// most bytes. How it is read is drawn apart: the other cases go by it not at all.
 fn read_case(rng: &mut Rng) -> Case {
     let size = size(rng);
-    Case::Read { script: script(rng, size) }
+    let script = script(rng, size);
+    let rng = &mut rng.apart();
+    let in_chunks = rng.percent(50);
+    let script = if in_chunks && rng.percent(8) { padded(rng, script) } else { script };
+    match (in_chunks, rng.percent(50)) {
+        (false, _) => Case::Read { script },
+        (true, true) => chunks_case(rng, script),
+        (true, false) => read_on_case(rng, script),
+    }
 }
 
 fn text_case(rng: &mut Rng) -> Case {

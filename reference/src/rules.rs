@@ -16,7 +16,8 @@ pub fn check(profile: &Profile) -> Result<(), Refusal> {
     check_rules(profile)
 }
 
-/// Refusals 6 to 17 of a profile whose numbers are in range.
+/// Refusals 6 to 17. A profile that was read is in range; one that an upload's
+/// state brings along may have any numbers, and is judged by them as they are.
 pub fn check_rules(profile: &Profile) -> Result<(), Refusal> {
     demand(profile.field.present, NO_FIELD, 0)?;
     for region in 0..profile.regions().len() {
@@ -159,7 +160,7 @@ pub fn region_size(profile: &Profile, region: usize) -> u64 {
     let field = &profile.field;
     let first = field.regions[region].first as u64;
     let length = profile.sequence_of(region).length as u64;
-    if region + 1 < field.count as usize {
+    if region + 1 < profile.regions().len() {
         let next = field.regions[region + 1].first as u64;
         (next - first) * length
     } else {
@@ -214,7 +215,7 @@ pub fn gate_lines(profile: &Profile) -> impl Iterator<Item = u64> {
 /// the second pattern act on both, and rules 14 and 15 hold for both."
 fn check_gate_lines(profile: &Profile) -> Result<(), Refusal> {
     let inside = gate_lines(profile).all(|line| line < profile.field.lines as u64);
-    // Without a second one they differ too: no gate line is 65,535.
+    // Without a second one they differ too: no gate line inside is 65,535.
     let differ = profile.field.gate != profile.field.gate2;
     demand(inside && differ, GATE_LINE_OR_SECOND, 0)?;
     match second_pattern(profile) {
@@ -246,7 +247,7 @@ fn second_allowed(profile: &Profile, second: &Pattern, line: u64) -> bool {
 /// length", of each gate line.
 fn check_gate(profile: &Profile, number: usize) -> Result<(), Refusal> {
     let gate = &profile.gates[number];
-    let off = !gate.present || gate.on == 0;
+    let off = !gate.present || gate.on != 1;
     let fits = gate_lines(profile).all(|line| (gate.toggle2 as u64) < line_length(profile, line));
     demand(off || (gate.toggle1 < gate.toggle2 && fits), GATE_PULSE, number)
 }

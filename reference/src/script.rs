@@ -6,7 +6,7 @@ use crate::refusal::*;
 use crate::rules::{check, check_rules};
 
 pub const SCRIPT_MOST: usize = 16_384;
-const HEADER: usize = 4;
+pub const HEADER: usize = 4;
 
 const KIND_REGISTER: u16 = 1;
 const KIND_SEQUENCE: u16 = 2;
@@ -21,21 +21,32 @@ const KIND_SHUTTER: u16 = 6;
 /// "Order: 1; then record by record ...; then 6; then 7 ..."
 pub fn read(script: &[u8]) -> Result<Profile, Refusal> {
     demand(script.len() <= SCRIPT_MOST, SCRIPT_TOO_LONG, 0)?;
-    let mut reader = Reader { script, place: 0 };
-    let mut profile = Profile::empty();
-    while reader.place < script.len() {
-        let record = reader.next_record()?;
-        let taken = take(&record, &mut profile);
-        demand(taken.is_some(), OUT_OF_RANGE, record.offset)?;
-    }
+    read_records(script, 0, Profile::empty())
+}
+
+/// A part of a script, up to its end, read into the profile of what came before
+/// it; its first record lies at an offset in the script.
+pub fn read_records(part: &[u8], offset: usize, mut profile: Profile) -> Result<Profile, Refusal> {
+    take_records(part, offset, &mut profile)?;
     check_rules(&profile)?;
     Ok(profile)
 }
 
-/// The script and the place of the next record in it.
+/// "record by record": all of them, or those before the first that is refused.
+pub fn take_records(part: &[u8], offset: usize, profile: &mut Profile) -> Result<(), Refusal> {
+    let mut reader = Reader { rest: part, offset };
+    while !reader.rest.is_empty() {
+        let record = reader.next_record()?;
+        let taken = take(&record, profile);
+        demand(taken.is_some(), OUT_OF_RANGE, record.offset)?;
+    }
+    Ok(())
+}
+
+/// What is left of the script, and where in it that begins.
 struct Reader<'a> {
-    script: &'a [u8],
-    place: usize,
+    rest: &'a [u8],
+    offset: usize,
 }
 
 struct Record<'a> {
@@ -47,16 +58,16 @@ struct Record<'a> {
 impl<'a> Reader<'a> {
     /// "inside one: header cut (2), kind (3), length (4), body cut (2)"
     fn next_record(&mut self) -> Result<Record<'a>, Refusal> {
-        let offset = self.place;
-        let rest = &self.script[offset..];
+        let Reader { rest, offset } = *self;
         demand(rest.len() >= HEADER, CUT_SHORT, offset)?;
         let length = number(rest, 0) as usize;
         let kind = number(rest, 1);
         demand(kind_known(kind), UNKNOWN_KIND, offset)?;
         demand(length_allowed(kind, length), LENGTH_NOT_ALLOWED, offset)?;
         demand(rest.len() >= HEADER + length, CUT_SHORT, offset)?;
-        self.place = offset + HEADER + length;
-        Ok(Record { offset, kind, body: &rest[HEADER..HEADER + length] })
+        let (record, after) = rest.split_at(HEADER + length);
+        *self = Reader { rest: after, offset: offset + record.len() };
+        Ok(Record { offset, kind, body: &record[HEADER..] })
     }
 }
 

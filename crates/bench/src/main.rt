@@ -1,11 +1,13 @@
 // Tests of speed, of what comes from standard input. `P` or `E` and a script: what booth prints for it, its list made pixel by pixel or from edge to
 // edge (lists.rt). All others write a checksum. `N`, `L` or `C` and a script: the places or the levels of its last two
-// pixels, or its check, asked for again and again (places.rt). Else numbers: 4095 lines of 4095 words, through `fill`, of the line that they tell.
+// pixels, or its check, asked for again and again (places.rt). `R`, `U`, `S` or `B` and a script: it is read again and again, at once, or in chunks of
+// 16,384 bytes, of 64, or byte by byte (uploads.rt). Else numbers: 4095 lines of 4095 words, through `fill`, of the line that they tell.
 // The numbers are decimal, with one byte between two of them: the half registers of patterns 0 and 1, as a profile holds them, then
 // length, mode, start, repetitions, mask bits, whether the second pattern acts; acts, level and two toggles of VSG1 to VSG5 and of SUBCK;
 // level, from and to of MSHUT and of STROBE. bench/levels.c does the same by the same rules in C.
 mod lists;
 mod places;
+mod uploads;
 
 use level::Line;
 use level::Mask;
@@ -176,6 +178,10 @@ fn answer(text: &[u8]) {
         b'N' => print_sum(places::places_sum(&text[1..])),
         b'L' => print_sum(places::levels_sum(&text[1..])),
         b'C' => print_sum(places::checks_sum(&text[1..])),
+        b'R' => print_sum(uploads::reads_sum(&text[1..])),
+        b'U' => print_sum(uploads::uploads_sum(&text[1..], 16384)),
+        b'S' => print_sum(uploads::uploads_sum(&text[1..], 64)),
+        b'B' => print_sum(uploads::uploads_sum(&text[1..], 1)),
         _ => print_sum(total(numbers(text))),
     }
 }

@@ -19,7 +19,7 @@ use Rattle.holdlist.specs.Play.{playAnswer}
 use Rattle.holdlist.specs.Text.{printed}
 use Rattle.holdlist.specs.declared.Compiled.{Compiled}
 use Rattle.cases.specs.Raw.{eightAt, numbersFrom, foursFrom, rawLength, versionLength, versionedLength, rulesAt, rawProfile}
-use Rattle.cases.specs.Kinds.{verdictText, readText, levelText, edgeText, locateText, writeText, writeOf, compileText, compileOf, compileLines, lengthAt, playText, playLines, linesOf}
+use Rattle.cases.specs.Kinds.{verdictText, readText, chunkedText, statedText, levelText, edgeText, locateText, writeText, writeOf, compileText, compileOf, compileLines, lengthAt, playText, playLines, linesOf}
 
 pub write-told :
     (p : Profile) (s s′ : List ℕ) (r : Written) → r ≡ writeAnswer newestRules p (length s) → s′ ≡ writeLeaves newestRules p s → writeText r s′ ≡ writeOf p s
@@ -61,6 +61,14 @@ module _ (kind : ℕ) (b : List ℕ) where
   pub read-kind : kind ≡ 82 → readText (readScript newestRules b) ≡ linesOf kind b
   unfolding linesOf
   read-kind e = rw e
+
+  pub chunked-kind : kind ≡ 85 → chunkedText b ≡ linesOf kind b
+  unfolding linesOf
+  chunked-kind e = rw e
+
+  pub stated-kind : kind ≡ 86 → statedText b ≡ linesOf kind b
+  unfolding linesOf
+  stated-kind e = rw e
 
   pub check-kind : kind ≡ 67 → verdictText (checkProfile newestRules (rawProfile b)) ≡ linesOf kind b
   unfolding linesOf

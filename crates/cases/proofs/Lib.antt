@@ -1,3 +1,4 @@
 pub mod Putting
 pub mod Answered
 pub mod Refusing
+pub mod Cutting

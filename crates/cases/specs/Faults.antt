@@ -8,6 +8,7 @@ use lib.ListN.{length}
 use Rattle.profile.specs.Lists.{all, chunks}
 use Rattle.profile.specs.Bytes.{numberAt}
 use Rattle.cases.specs.Raw.{fourAt, rawLength, versionLength, versionedLength}
+use Rattle.cases.specs.Chunked.{endsCut}
 use Rattle.cases.specs.Answer.{caseLine}
 use Rattle.cases.specs.Kinds.{linesOf}
 
@@ -31,17 +32,19 @@ listsEnd n from c w = leb c 4096 && (leb w 4096 && eqb n (from + 4 * c + 2 * w))
 abbrev pub hasLists : List ℕ → ℕ → ℕ → Bool
 hasLists b at from = listsEnd (length b) from (fourAt b at) (fourAt b (at + 4))
 
--- R, C, W, L and E, N, K and J, T, P
+-- R, U, V, C, W, L and E, N, K and J, T, P
 abbrev pub isRight : ℕ → List ℕ → Bool
 isRight kind b =
     cond (eqb kind 82) (leb (length b) 40000)
+    (cond (eqb kind 85) (endsCut b versionLength)
+    (cond (eqb kind 86) (isRaw b && endsCut b 848)
     (cond (eqb kind 67) (isRaw b && eqb (length b) rawLength)
     (cond (eqb kind 87) (isRaw b)
     (cond (eqb kind 76 || eqb kind 69) (isRaw b && eqb (length b) (versionedLength + 16))
     (cond (eqb kind 78) (isRaw b && eqb (length b) (rawLength + 8))
     (cond (eqb kind 75 || eqb kind 74) (isRaw b && hasLists b versionedLength (versionedLength + 8))
     (cond (eqb kind 84) (leb versionLength (length b) && leb (length b) (versionLength + 40000))
-    (cond (eqb kind 80) (hasLists b 0 24) false)))))))
+    (cond (eqb kind 80) (hasLists b 0 24) false)))))))))
 
 -- all that is printed for case k; nothing where the payload is at fault
 unfoldable pub answerText : ℕ → ℕ → List ℕ → List ℕ

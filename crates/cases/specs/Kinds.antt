@@ -8,6 +8,7 @@ use lib.ListN.{length, drop}
 use Rattle.profile.specs.Versions.{newestRules}
 use Rattle.profile.specs.Rules.{checkProfile}
 use Rattle.profile.specs.Script.{readScript}
+use Rattle.profile.specs.Upload.{startUpload, uploadAnswer}
 use Rattle.profile.specs.Writing.{writeAnswer, writeLeaves}
 use Rattle.profile.specs.declared.ReadAnswer.{ReadAnswer}
 use Rattle.profile.specs.declared.Verdict.{Verdict}
@@ -24,6 +25,7 @@ use Rattle.holdlist.specs.Text.{printed}
 use Rattle.holdlist.specs.declared.Compiled.{Compiled}
 use Rattle.holdlist.specs.declared.Played.{Played}
 use Rattle.cases.specs.Raw.{fourAt, eightAt, numbersFrom, foursFrom, rawLength, versionLength, versionedLength, rulesAt, rawProfile}
+use Rattle.cases.specs.Chunked.{uploadAt, stateOf}
 use Rattle.cases.specs.Answer.{after, flagNumber, headText, hexLine, joinedLine, profileLine}
 
 -- ---- lines of an answer
@@ -88,14 +90,23 @@ compileLines c w b =
 unfoldable pub playLines : ℕ → ℕ → List ℕ → List ℕ
 playLines c w b = playText (playAnswer (foursFrom b 24 c) (numbersFrom b (24 + 4 * c) w) (eightAt b 8) (eightAt b 16))
 
--- R, C, W, L, E, N, K and J, T, P
+-- from the start of an upload, and from a state: the chunks' lengths are counted behind a version, and behind the state
+unfoldable pub chunkedText : List ℕ → List ℕ
+chunkedText b = readText (uploadAnswer (rulesAt b 0) (uploadAt b versionLength startUpload))
+
+unfoldable pub statedText : List ℕ → List ℕ
+statedText b = readText (uploadAnswer (rulesAt b rawLength) (uploadAt b 848 (stateOf b)))
+
+-- R, U, V, C, W, L, E, N, K and J, T, P
 unfoldable pub linesOf : ℕ → List ℕ → List ℕ
 linesOf kind b =
     cond (eqb kind 82) (readText (readScript newestRules b))
+    (cond (eqb kind 85) (chunkedText b)
+    (cond (eqb kind 86) (statedText b)
     (cond (eqb kind 67) (verdictText (checkProfile newestRules (rawProfile b)))
     (cond (eqb kind 87) (writeOf (rawProfile b) (drop rawLength b))
     (cond (eqb kind 76) (levelText (levelAnswer (rulesAt b rawLength) (rawProfile b) (eightAt b versionedLength) (eightAt b (versionedLength + 8))))
     (cond (eqb kind 69) (edgeText (nextEdgeAnswer (rulesAt b rawLength) (rawProfile b) (eightAt b versionedLength) (eightAt b (versionedLength + 8))))
     (cond (eqb kind 78) (locateText (locateAnswer newestRules (rawProfile b) (eightAt b rawLength)))
     (cond (eqb kind 75 || eqb kind 74) (compileLines (lengthAt b versionedLength) (lengthAt b (versionedLength + 4)) b)
-    (cond (eqb kind 84) (printed (rulesAt b 0) (drop versionLength b)) (playLines (lengthAt b 0) (lengthAt b 4) b))))))))
+    (cond (eqb kind 84) (printed (rulesAt b 0) (drop versionLength b)) (playLines (lengthAt b 0) (lengthAt b 4) b))))))))))

@@ -27,7 +27,10 @@ fourAt b at = getD b at 0 + 256 * getD b (at + 1) 0 + 65536 * getD b (at + 2) 0 
 abbrev pub eightAt : List ℕ → ℕ → ℕ
 eightAt b at = fourAt b at + 4294967296 * fourAt b (at + 4)
 
--- n numbers from a place on
+-- n bytes, n numbers from a place on
+abbrev pub bytesFrom : List ℕ → ℕ → ℕ → List ℕ
+bytesFrom b at n = chunks n (λ i. getD b (at + i) 0 ∷ [])
+
 abbrev pub numbersFrom : List ℕ → ℕ → ℕ → List ℕ
 numbersFrom b at n = chunks n (λ i. numberAt b (at + 2 * i) ∷ [])
 

@@ -1,4 +1,8 @@
 // The answer to one case: what an entry point gives for a payload, as text.
+use crate::chunks::STATED;
+use crate::chunks::ends_cut;
+use crate::chunks::state_of;
+use crate::chunks::take_cut;
 use crate::raw::RAW;
 use crate::raw::RAW_AND_ONE;
 use crate::raw::VERSION;
@@ -23,6 +27,7 @@ use crate::text::put_words;
 use holdlist::Compiled;
 use holdlist::put_byte;
 use profile::Profile;
+use profile::ReadAnswer;
 use profile::Ruleset;
 use profile::Verdict;
 ghost use mathlib.Core.Path.{_≡_};
@@ -38,7 +43,7 @@ ghost use Rattle.holdlist.specs.Play.{playAnswer};
 ghost use Rattle.holdlist.specs.Text.{printed, Puts};
 ghost use Rattle.cases.specs.Raw.{eightAt, rawLength, versionLength, versionedLength, rulesAt, rawProfile};
 ghost use Rattle.cases.specs.Answer.{caseLine};
-ghost use Rattle.cases.specs.Kinds.{verdictText, verdictWith, verdictWithTwo, verdictWithThree, readText, levelText, edgeText, locateText, writeOf, lengthAt, compileOf, compileLines, playText, playLines, linesOf};
+ghost use Rattle.cases.specs.Kinds.{verdictText, verdictWith, verdictWithTwo, verdictWithThree, readText, chunkedText, statedText, levelText, edgeText, locateText, writeOf, lengthAt, compileOf, compileLines, playText, playLines, linesOf};
 ghost use Rattle.cases.specs.Faults.{isRight, answerText};
 
 // Room for 4,096 steps.
@@ -96,14 +101,41 @@ fn put_verdict_with_three(
     put_byte(out, d, 10)
 }
 
-fn put_read(out: &mut [u8], at: usize, payload: &[u8]) -> usize
-    ensures { λ r. ⌜ Puts (readText (readScript newestRules (now (payload .entry)))) (now (out .entry)) at r (now (out .exit)) ⌝ }
+// What was read: the verdict and the profile.
+fn put_answered(out: &mut [u8], at: usize, answer: ReadAnswer) -> usize
+    ensures { λ r. ⌜ Puts (readText answer) (now (out .entry)) at r (now (out .exit)) ⌝ }
 {
-    let answer = profile::read(payload);
     let verdict = answer.verdict;
     let profile = answer.profile;
     let a = put_verdict_line(out, at, verdict);
     put_profile(out, a, profile)
+}
+
+fn put_read(out: &mut [u8], at: usize, payload: &[u8]) -> usize
+    ensures { λ r. ⌜ Puts (readText (readScript newestRules (now (payload .entry)))) (now (out .entry)) at r (now (out .exit)) ⌝ }
+{
+    let answer = profile::read(payload);
+    put_answered(out, at, answer)
+}
+
+// A script in chunks, from the start.
+fn put_chunked(out: &mut [u8], at: usize, payload: &[u8]) -> usize
+    ensures { λ r. ⌜ Puts (chunkedText (now (payload .entry))) (now (out .entry)) at r (now (out .exit)) ⌝ }
+{
+    let rules = rules_at(payload, 0);
+    let upload = take_cut(profile::upload::start(), payload, VERSION);
+    let answer = profile::upload::answer_in(rules, upload);
+    put_answered(out, at, answer)
+}
+
+// Chunks from a state on.
+fn put_stated(out: &mut [u8], at: usize, payload: &[u8]) -> usize
+    ensures { λ r. ⌜ Puts (statedText (now (payload .entry))) (now (out .entry)) at r (now (out .exit)) ⌝ }
+{
+    let rules = rules_at(payload, RAW);
+    let upload = take_cut(state_of(payload), payload, STATED);
+    let answer = profile::upload::answer_in(rules, upload);
+    put_answered(out, at, answer)
 }
 
 fn put_check(out: &mut [u8], at: usize, payload: &[u8]) -> usize
@@ -315,6 +347,8 @@ fn is_right(kind: u8, payload: &[u8]) -> bool
 {
     match kind {
         b'R' => payload.len() <= 40000,
+        b'U' => ends_cut(payload, VERSION),
+        b'V' => is_raw(payload) & ends_cut(payload, STATED),
         b'C' => is_raw(payload) & (payload.len() == RAW),
         b'W' => is_raw(payload),
         b'L' => is_raw(payload) & (payload.len() == VERSIONED_AND_TWO),
@@ -333,6 +367,8 @@ fn put_lines(out: &mut [u8], at: usize, kind: u8, payload: &mut [u8]) -> usize
 {
     match kind {
         b'R' => put_read(out, at, payload),
+        b'U' => put_chunked(out, at, payload),
+        b'V' => put_stated(out, at, payload),
         b'C' => put_check(out, at, payload),
         b'W' => put_write(out, at, payload),
         b'L' => put_level(out, at, payload),

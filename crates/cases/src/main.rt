@@ -1,5 +1,6 @@
 // Reads a batch of cases from standard input and prints what the entry points answer. tests/cases/FORMAT.md has the format of both.
 mod answers;
+mod chunks;
 mod raw;
 mod text;
 

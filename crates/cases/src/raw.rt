@@ -14,7 +14,7 @@ ghost use mathlib.Core.Path.{_≡_};
 ghost use Prim.Native.Nat.{_+_, _*_, _<_, min};
 ghost use lib.ListN.{length, getD};
 ghost use Rattle.profile.specs.Bytes.{numberAt};
-ghost use Rattle.cases.specs.Raw.{fourAt, eightAt, rulesAt, rawSequence, rawGate, rawSubck, rawShutter, rawRegion, numbersFrom, foursFrom, rawCount, rawNumbers, rawSequences, rawGates, rawShutters, rawRegions, fieldWith, rawProfile};
+ghost use Rattle.cases.specs.Raw.{fourAt, eightAt, rulesAt, rawSequence, rawGate, rawSubck, rawShutter, rawRegion, bytesFrom, numbersFrom, foursFrom, rawCount, rawNumbers, rawSequences, rawGates, rawShutters, rawRegions, fieldWith, rawProfile};
 ghost use Rattle.cases.specs.Faults.{below, isRaw, hasLists};
 
 // ---- numbers
@@ -39,7 +39,7 @@ fn wider(x: u8) -> u32
 
 // The number of two bytes.
 pub(crate) fn number_at(body: &[u8], at: usize) -> u16
-    requires { ⌜ at < 65536 ⌝ }
+    requires { ⌜ at < 200000 ⌝ }
     ensures { λ r. ⌜ r ≡ numberAt (now (body .entry)) at ⌝ }
 {
     wide(byte_at(body, at)) + 256 * wide(byte_at(body, at + 1))
@@ -80,6 +80,17 @@ pub(crate) fn fill_numbers(list: &mut [u16], body: &[u8], at: usize)
     let mut i: usize = 0;
     while i < list.len() {
         list[i] = number_at(body, at + 2 * i);
+        i += 1;
+    }
+}
+
+pub(crate) fn fill_bytes(list: &mut [u8], body: &[u8], at: usize)
+    requires { ⌜ at + length (now list) < 65536 ⌝ }
+    ensures { λ _. ⌜ now (list .exit) ≡ bytesFrom (now (body .entry)) at (length (now (list .entry))) ⌝ }
+{
+    let mut i: usize = 0;
+    while i < list.len() {
+        list[i] = byte_at(body, at + i);
         i += 1;
     }
 }

@@ -42,6 +42,12 @@ and-right false b e = absurd (false≢true e)
 pub and-intro : {a b : Bool} → a ≡ true → b ≡ true → a && b ≡ true
 and-intro p q = rw (p, q)
 
+-- a and not b, where it is not so that b or not a
+pub and-not : (a b : Bool) → a && not b ≡ not (not a || b)
+and-not true true = refl
+and-not true false = refl
+and-not false b = refl
+
 -- `not a || b` is "where a, b"
 pub where-true : (a b : Bool) → not a || b ≡ true → a ≡ true → b ≡ true
 where-true true b e h = e

@@ -3,18 +3,19 @@
 -- Assumes nothing.
 use Prim.Native.Nat.{ℕ, zero, suc, _+_, _<_}
 use native.Mathlib.Omega.{arith}
-use mathlib.Core.Path.{_≡_, refl, subst}
+use mathlib.Core.Path.{_≡_, refl}
 use mathlib.Core.Logic.{_⊎_, inl, inr}
 use mathlib.Core.Bool.{Bool, cond}
-use mathlib.Core.List.{List, [], _∷_}
+use mathlib.Core.List.{List, [], _∷_, _++_}
+use borrow.Author.Tests.{leb-true}
 use lib.ListN.{length}
-use lib.Dec.{ltb, leb}
+use lib.Dec.{leb}
 use Rattle.profile.specs.Lists.{Each}
-use Rattle.profile.specs.Bytes.{numberAt}
 use Rattle.profile.specs.Values.{emptyProfile, accepted, refused, refusedToggle, accepts, Names}
 use Rattle.profile.specs.Ranges.{inRange}
 use Rattle.profile.specs.Rules.{lineEntries, rulesOf, judge, checkProfile}
-use Rattle.profile.specs.Script.{mostBytes, known, allowed, fits, bodyOf, Stepped, stop, next, step, afterFirst, records, readScript}
+use Rattle.profile.specs.Script.{mostBytes, Stepped, stop, next, step, afterFirst, records, judged, readScript}
+use Rattle.profile.specs.Upload.{heldBytes, arrived, isRefused, recordsWith, readWith, uploadAnswer}
 use Rattle.profile.specs.Writing.{writeScript, writeVerdict}
 use Rattle.profile.specs.declared.Tables.{Tables}
 use Rattle.profile.specs.declared.Field.{Field}
@@ -22,7 +23,9 @@ use Rattle.profile.specs.declared.Profile.{Profile}
 use Rattle.profile.specs.declared.Verdict.{Verdict}
 use Rattle.profile.specs.declared.ReadAnswer.{ReadAnswer}
 use Rattle.profile.specs.declared.Ruleset.{Ruleset}
-use Rattle.profile.proofs.Laws.{cond-case, by-cases}
+use Rattle.profile.specs.declared.upload.Upload.{Upload}
+use Rattle.profile.proofs.Laws.{cond-case, by-cases, and-right}
+use Rattle.profile.proofs.Takes.{stop-range}
 use Rattle.profile.proofs.Entries.{broken-one}
 use Rattle.profile.proofs.Checked.{judge-entries, parts-at, parts-rules}
 
@@ -82,30 +85,11 @@ module _ {A : Type 0} (verdict : A → Verdict) where
 
 -- ---- reading and writing
 
--- a record that stops the reading has a number of 2 to 5
-abbrev StopNames : ℕ → Stepped → Type 0
-StopNames at (stop n) = Names (refused n at)
-StopNames at (next len q) = Unit {0}
-
-step-names : (s : List ℕ) (p : Profile) (at : ℕ) → StopNames at (step s p)
-unfolding step
-step-names s p at =
-    by-cases (ltb (length s) 4) (λ a. rw a (names-none 2 at (omega arith)))
-    (λ a.
-    by-cases (known (numberAt s 2))
-    (λ b.
-    by-cases (allowed (numberAt s 2) (numberAt s 0))
-    (λ c.
-    by-cases (ltb (length s) (4 + numberAt s 0)) (λ d. rw (a, b, c, d) (names-none 2 at (omega arith)))
-    (λ d. by-cases (fits (numberAt s 2) (bodyOf s)) (λ e. rw (a, b, c, d, e) tt) (λ e. rw (a, b, c, d, e) (names-none 5 at (omega arith)))))
-    (λ c. rw (a, b, c) (names-none 4 at (omega arith))))
-    (λ b. rw (a, b) (names-none 3 at (omega arith))))
-
--- the record at the front, by what its step is; on is the rest
+-- the record at the front, by what its step is: one that stops the reading has a number of 2 to 5; on is the rest
 record-names : (x : ℕ) (xs : List ℕ) (at : ℕ) (p : Profile) → ((skip at : ℕ) (q : Profile) → Names (records skip at xs q .verdict))
     → (r : Stepped) → step (x ∷ xs) p ≡ r → Names (records 0 at (x ∷ xs) p .verdict)
 unfolding records
-record-names x xs at p on (stop n) e = rw (e, records) (subst (StopNames at) e (step-names (x ∷ xs) p at))
+record-names x xs at p on (stop n) e = rw (e, records) (names-none n at (omega (arith, stop-range (x ∷ xs) p n e .1)))
 record-names x xs at p on (next len q) e = rw (e, records) (on (afterFirst len) (at + 1) q)
 
 pub records-names : (s : List ℕ) (skip at : ℕ) (p : Profile) → Names (records skip at s p .verdict)
@@ -114,12 +98,27 @@ records-names [] skip at p = names-accepted
 records-names (x ∷ xs) zero at p = record-names x xs at p (λ skip at q. records-names xs skip at q) (step (x ∷ xs) p) refl
 records-names (x ∷ xs) (suc skip) at p = records-names xs skip (at + 1) p
 
+judged-names : (rules : Ruleset) (r : ReadAnswer) → Names (r .verdict) → Names (judged rules r .verdict)
+judged-names rules r n = tested-names (λ (a : ReadAnswer). a .verdict) (accepts (r .verdict)) _ _ (judge-names rules (r .profile)) n
+
 pub read-names : (rules : Ruleset) (s : List ℕ) → Names (readScript rules s .verdict)
 unfolding readScript
 read-names rules s =
-    let r = records 0 0 s emptyProfile in
     tested-names (λ (a : ReadAnswer). a .verdict) (leb (length s) mostBytes) _ _
-    (tested-names (λ (a : ReadAnswer). a .verdict) (accepts (r .verdict)) _ _ (judge-names rules (r .profile)) (records-names s 0 0 emptyProfile))
+    (judged-names rules (records 0 0 s emptyProfile) (records-names s 0 0 emptyProfile))
+    (names-none 1 0 (omega arith))
+
+-- of every state of an upload
+pub upload-names : (rules : Ruleset) (u : Upload) → Names (uploadAnswer rules u .verdict)
+unfolding readWith
+upload-names rules u =
+    tested-names (λ (a : ReadAnswer). a .verdict) (leb (arrived (u .arrival) + 0) mostBytes) _ _
+    (judged-names rules (recordsWith u [])
+    (by-cases (isRefused (u .arrival .number))
+    (λ r.
+    let n = leb-true (u .arrival .number) 5 (and-right (leb 3 (u .arrival .number)) _ r) in
+    rw r (names-none (u .arrival .number) (u .arrival .place) (omega arith)))
+    (λ r. rw r (records-names (heldBytes (u .arrival) ++ []) 0 _ (u .profile)))))
     (names-none 1 0 (omega arith))
 
 pub write-names : (rules : Ruleset) (p : Profile) (room : ℕ) → Names (writeVerdict rules p room)

@@ -1,25 +1,26 @@
 -- The record at an offset: which answer its tests give, and what a step over it leaves.
 -- Assumes nothing.
-use mathlib.Core.Path.{_≡_, refl, sym, _∙_}
-use mathlib.Core.Bool.{true, false}
+use mathlib.Core.Path.{_≡_, refl, sym, ap, _∙_}
+use mathlib.Core.Bool.{true, false, cond, _&&_}
 use mathlib.Core.List.{List}
 use Prim.Native.Nat.{ℕ, suc, _+_, _-_, _≤_, _<_}
 use native.Mathlib.Nat.{add-zero}
 use native.Mathlib.Omega.{arith}
-use borrow.Author.Tests.{not-true, not-false, lt-ltb, le-ltb, eqb-true, eqb-false}
+use borrow.Author.Tests.{not-true, not-false, ltb-true, ltb-false, lt-ltb, le-ltb, eqb-true, eqb-false, eq-eqb}
 use lib.Dec.{ltb, eqb}
 use lib.ListN.{length, getD, take, drop, length-take, length-drop, drop-of-length-le}
 use lib.Seq.{getD-drop, drop-drop, drop-cons}
 use Rattle.profile.specs.Bytes.{numberAt}
 use Rattle.profile.specs.Values.{refused, accepted, readAnswer}
 use Rattle.profile.specs.Script.{known, allowed, fits, withRecord, bodyOf, Stepped, stop, next, step, records}
-use Rattle.profile.specs.Reading.{bodyAnswer, unfound, foundFront, foundAt, stepAnswer}
+use Rattle.profile.specs.Upload.{Reached, reached}
+use Rattle.profile.specs.Reading.{bodyAnswer, unfound, foundFront, foundAt, stepAnswer, recordAnswer, reachedAnswer}
 use Rattle.profile.specs.declared.Profile.{Profile}
 use Rattle.profile.specs.declared.records.BodyAnswer.{BodyAnswer}
 use Rattle.profile.specs.declared.records.Found.{Found}
 use Rattle.profile.specs.declared.records.RecordAnswer.{RecordAnswer}
-use Rattle.profile.proofs.Laws.{by-cases, tested-no, tested-yes}
-use Rattle.profile.proofs.Takes.{Whole, known-found, step-next, records-next, records-stop, records-done}
+use Rattle.profile.proofs.Laws.{by-cases, and-left, and-right, tested-no, tested-yes}
+use Rattle.profile.proofs.Takes.{Whole, known-found, step-next, stop-range, reached-next, reached-stop, reached-end, reads-on, records-stop, records-done}
 
 -- ---- which answer
 
@@ -103,7 +104,7 @@ module _ (s : List ℕ) (at : ℕ) (f : Found) (e : f ≡ foundAt s at) where
   module _ (p : Profile) where
     pub step-refused : (f .number ≡ 0 → ⊥) → record { number = f .number; next = at; profile = p } ≡ stepAnswer at p (step rest p)
     step-refused n =
-        let k : step rest p ≡ stop (f .number) = rw e (known-found at rest .1 (rw e at n) p) in
+        let k : step rest p ≡ stop (f .number) = rw e (known-found at rest .1 (rw e at n) .stops p) in
         rw k
 
     module _ (z : f .number ≡ 0) (t : BodyAnswer) where
@@ -131,55 +132,127 @@ pub ruleset stepping = (part-ordered, part-inside, part-allowed, step-refused, s
 
 -- ---- all records, one after the other
 
--- no step is refused with the number 0
-stop-number : (r : List ℕ) (p : Profile) (n : ℕ) → step r p ≡ stop n → n ≡ 0 → ⊥
-stop-number r p n e z =
-    let f = foundFront 0 r in
-    let k = known-found 0 r in
-    by-cases (eqb (f .number) 0)
-    (λ a.
-    let v = k .0 (eqb-true (f .number) 0 a) .values p in
-    by-cases (fits (numberAt r 2) (bodyOf r))
-    (λ b. let w = rw b at v in next-stop (numberAt r 0) n (withRecord (numberAt r 2) (bodyOf r) p) (sym w ∙ e))
-    (λ b. let w = rw b at v in stop-zero 5 n (sym w ∙ e) z (omega arith)))
-    (λ a. let m = eqb-false (f .number) 0 a in stop-zero (f .number) n (sym (k .1 m p) ∙ e) z m)
-  where
-    next-stop : (len n : ℕ) (q : Profile) → next len q ≡ stop n → ⊥
-    next-stop len n q e = let z : _≡_ {A = ℕ} 0 1 = cc in omega arith
-
-    stop-zero : (m n : ℕ) → stop m ≡ stop n → n ≡ 0 → (m ≡ 0 → ⊥) → ⊥
-    stop-zero m n e z h = h (cc)
-
 module _ (s : List ℕ) (at : ℕ) (p : Profile) (t : RecordAnswer) (e : t ≡ stepAnswer at p (step (drop at s) p)) where
   -- a step that was taken
-  record Moved : Type 0 where
+  pub record Moved : Type 0 where
     pub len : ℕ
     pub place : t .next ≡ at + (4 + len)
     pub took : step (drop at s) p ≡ next len (t .profile)
 
+  -- a step that was refused
+  pub record Halted : Type 0 where
+    pub refused : step (drop at s) p ≡ stop (t .number)
+    pub answer : t ≡ record { number = t .number; next = at; profile = p }
+
   -- by what the step is
-  told : (t .number ≡ 0 → Moved) × ((t .number ≡ 0 → ⊥) → step (drop at s) p ≡ stop (t .number))
+  pub told : (t .number ≡ 0 → Moved) × ((t .number ≡ 0 → ⊥) → Halted)
   told = go (step (drop at s) p) refl e
     where
-      go : (x : Stepped) → step (drop at s) p ≡ x → t ≡ stepAnswer at p x
-          → (t .number ≡ 0 → Moved) × ((t .number ≡ 0 → ⊥) → step (drop at s) p ≡ stop (t .number))
-      go (stop n) q e = ((λ z. absurd (stop-number (drop at s) p n q (rw e at z))), λ h. rw e q)
+      go : (x : Stepped) → step (drop at s) p ≡ x → t ≡ stepAnswer at p x → (t .number ≡ 0 → Moved) × ((t .number ≡ 0 → ⊥) → Halted)
+      go (stop n) q e = (
+        (λ z. absurd (omega (arith, stop-range (drop at s) p n q .0, ap (λ (t : RecordAnswer). t .number) e))),
+        λ h. record { refused = rw e q; answer = rw e },
+      )
       go (next len r) q e = ((λ z. record { len = len; place = rw e; took = rw e q }), λ h. absurd (h (rw e)))
 
   pub further : t .number ≡ 0 → at < t .next
   further z = let m = told .0 z in omega arith
 
-  pub read-on : t .number ≡ 0 → records 0 (t .next) (drop (t .next) s) (t .profile) ≡ records 0 at (drop at s) p
-  read-on z =
+  pub reach-on : t .number ≡ 0 → reached 0 (drop (t .next) s) (t .profile) ≡ reached 0 (drop at s) p
+  reach-on z =
       let m = told .0 z in
-      let n = records-next (drop at s) at (m .len) p (t .profile) (step-next (drop at s) p (m .len) (t .profile) (m .took)) (m .took) in
-      rw (m .place, ← drop-drop (4 + m .len) at s) (sym n)
+      rw (m .place, ← drop-drop (4 + m .len) at s) (sym (reached-next (drop at s) (m .len) p (t .profile) (m .took)))
+
+  pub inside : t .number ≡ 0 → at ≤ length s → t .next ≤ length s
+  inside z h =
+      let m = told .0 z in
+      omega (arith, step-next (drop at s) p (m .len) (t .profile) (m .took), length-drop at s)
+
+  pub read-on : t .number ≡ 0 → at < length s → records 0 (t .next) (drop (t .next) s) (t .profile) ≡ records 0 at (drop at s) p
+  read-on z h =
+      let i = inside z (omega arith) in
+      reads-on (t .next) at (drop (t .next) s) (drop at s) (t .profile) p
+      (omega (arith, length-drop (t .next) s, length-drop at s)) (reach-on z)
 
   pub read-stop : at < length s → (t .number ≡ 0 → ⊥) → readAnswer (refused (t .number) at) p ≡ records 0 at (drop at s) p
   read-stop h n =
       let c = drop-cons s at 0 h in
-      rw c (sym (records-stop (getD s at 0) (drop (suc at) s) at (t .number) p (rw c at (told .1 n))))
+      rw c (sym (records-stop (getD s at 0) (drop (suc at) s) at (t .number) p (rw c at (told .1 n .refused))))
+
+  pub reach-stop : at < length s → (t .number ≡ 0 → ⊥) → t ≡ reachedAnswer s (reached 0 (drop at s) p)
+  reach-stop h n =
+      let c = drop-cons s at 0 h in
+      let m = told .1 n in
+      let k : length s - length (drop at s) ≡ at = omega (arith, length-drop at s) in
+      let r : reached 0 (drop at s) p ≡ record { number = t .number; rest = drop at s; profile = p } =
+      rw c (reached-stop (getD s at 0) (drop (suc at) s) (t .number) p (rw c at (m .refused))) in
+      m .answer ∙ rw (r, k)
 
 pub read-end : (s : List ℕ) (at : ℕ) (p : Profile) → length s ≤ at
     → readAnswer accepted p ≡ records 0 at (drop at s) p
 read-end s at p h = rw (drop-of-length-le s h) (sym (records-done 0 at p))
+
+pub reach-end : (s : List ℕ) (at : ℕ) (p : Profile) → length s ≤ at
+    → record { number = 0; next = length s; profile = p } ≡ reachedAnswer s (reached 0 (drop at s) p)
+reach-end s at p h =
+    rw (drop-of-length-le s h, reached-end 0 p) (ap (λ (n : ℕ). record { number = 0; next = n; profile = p }) (omega arith))
+
+-- a loop over the records: how far the answer goes, and what is left of the way
+pub record Going (s : List ℕ) (w : Reached) (t : RecordAnswer) : Type 0 where
+  pub within : t .next ≤ length s
+  pub on : t .number ≡ 0 → reached 0 (drop (t .next) s) (t .profile) ≡ w
+  pub done : (t .number ≡ 0 → ⊥) → t ≡ reachedAnswer s w
+
+abbrev pub left : List ℕ → RecordAnswer → ℕ
+left s t = length s - t .next + cond (eqb (t .number) 0) 1 0
+
+pub going-none : (s : List ℕ) (at : ℕ) (p : Profile) → at ≤ length s → Going s (reached 0 (drop at s) p) (record { number = 0; next = at; profile = p })
+going-none s at p h = record { within = h; on = λ z. refl; done = λ n. absurd (n refl) }
+
+module _ {s : List ℕ} {w : Reached} {t : RecordAnswer} (g : Going s w t) where
+  pub going-end : eqb (t .number) 0 && ltb (t .next) (length s) ≡ false → t ≡ reachedAnswer s w
+  going-end e =
+      by-cases (eqb (t .number) 0)
+      (λ z.
+      let y = eqb-true (t .number) 0 z in
+      let l = ltb-false (t .next) (length s) (rw z at e) in
+      let k : t .next ≡ length s = omega (arith, g .within) in
+      ap (λ (n : ℕ). record { number = n; next = t .next; profile = t .profile }) y
+      ∙ ap (λ (n : ℕ). record { number = 0; next = n; profile = t .profile }) k
+      ∙ reach-end s (t .next) (t .profile) l
+      ∙ ap (reachedAnswer s) (g .on y))
+      (λ z. g .done (eqb-false (t .number) 0 z))
+
+  module _ (v : RecordAnswer) (e : v ≡ recordAnswer s (t .next) (t .profile)) (q : eqb (t .number) 0 && ltb (t .next) (length s) ≡ true) where
+    zeroed : t .number ≡ 0
+    zeroed = eqb-true (t .number) 0 (and-left (eqb (t .number) 0) _ q)
+
+    below : t .next < length s
+    below = ltb-true (t .next) (length s) (and-right (eqb (t .number) 0) _ q)
+
+    abbrev what : (v .number ≡ 0 → Moved s (t .next) (t .profile) v e) × ((v .number ≡ 0 → ⊥) → Halted s (t .next) (t .profile) v e)
+    what = told s (t .next) (t .profile) v e
+
+    pub going-more : Going s w v
+    going-more =
+        record {
+          within =
+              by-cases (eqb (v .number) 0)
+              (λ z. inside s (t .next) (t .profile) v e (eqb-true (v .number) 0 z) (omega (arith, below)))
+              (λ z. omega (arith, below, ap (λ (r : RecordAnswer). r .next) (what .1 (eqb-false (v .number) 0 z) .answer)));
+          on = λ z. reach-on s (t .next) (t .profile) v e z ∙ g .on zeroed;
+          done = λ n. reach-stop s (t .next) (t .profile) v e below n ∙ ap (reachedAnswer s) (g .on zeroed);
+        }
+
+    pub going-less : left s v < left s t
+    going-less =
+        by-cases (eqb (v .number) 0)
+        (λ z.
+        let y = eq-eqb (t .number) 0 zeroed in
+        let f = further s (t .next) (t .profile) v e (eqb-true (v .number) 0 z) in
+        let i = going-more .within in
+        rw (z, y) (omega (arith, below)))
+        (λ z.
+        let y = eq-eqb (t .number) 0 zeroed in
+        let k = ap (λ (r : RecordAnswer). r .next) (what .1 (eqb-false (v .number) 0 z) .answer) in
+        rw (z, y) (omega (arith, below)))

@@ -3,21 +3,26 @@
 -- Assumes nothing.
 use mathlib.Core.Path.{_≡_, refl, sym, ap, _∙_}
 use mathlib.Core.Bool.{Bool, true, false, cond}
+use mathlib.Core.Logic.{_⊎_, inl, inr}
 use mathlib.Core.List.{List, [], _∷_, _++_, append-assoc, append-nil}
-use Prim.Native.Nat.{ℕ, zero, suc, _+_, _≤_, _<_}
+use Prim.Native.Nat.{ℕ, zero, suc, _+_, _-_, _≤_, _<_}
 use native.Mathlib.Nat.{add-zero}
 use native.Mathlib.Omega.{arith}
-use borrow.Author.Tests.{ltb-false, eqb-true, eqb-false}
+use borrow.Author.Tests.{ltb-true, ltb-false, eqb-true, eqb-false, ne-eqb}
 use lib.Dec.{ltb, eqb}
-use lib.ListN.{length, take, drop, length-append, take-append-drop}
+use lib.ListN.{length, take, drop, length-append, length-drop, take-append-drop}
 use lib.Seq.{length-take-le}
 use Rattle.profile.specs.Lists.{chunks}
 use Rattle.profile.specs.Bytes.{numberAt}
 use Rattle.profile.specs.Values.{refused, accepted, readAnswer}
-use Rattle.profile.specs.Script.{known, allowed, fits, withRecord, bodyOf, stop, next, step, afterFirst, records}
-use Rattle.profile.specs.Reading.{foundFront}
+use Rattle.profile.specs.Script.{known, allowed, fits, withRecord, bodyOf, Stepped, stop, next, step, afterFirst, records}
+use Rattle.profile.specs.Upload.{Reached, reached}
+use Rattle.profile.specs.Reading.{foundFront, verdictOf, reachedAnswer}
 use Rattle.profile.specs.declared.Profile.{Profile}
+use Rattle.profile.specs.declared.ReadAnswer.{ReadAnswer}
+use Rattle.profile.specs.declared.Verdict.{Verdict}
 use Rattle.profile.specs.declared.records.Found.{Found}
+use Rattle.profile.specs.declared.records.RecordAnswer.{RecordAnswer}
 use Rattle.profile.proofs.Laws.{by-cases}
 
 -- ---- one record by its tests, as the step and the search for it make them
@@ -33,22 +38,31 @@ pub record Whole (at : ℕ) (r : List ℕ) (f : Found) : Type 0 where
   pub values : (p : Profile) → step r p
       ≡ cond (fits (numberAt r 2) (bodyOf r)) (next (numberAt r 0) (withRecord (numberAt r 2) (bodyOf r) p)) (stop 5)
 
--- found whole, or refused for the step too
+-- one that was refused, for the step too: with 2 where the header or the body is cut, else with 3 or 4
+pub record Unfound (r : List ℕ) (number : ℕ) : Type 0 where
+  pub stops : (p : Profile) → step r p ≡ stop number
+  pub range : (2 ≤ number) × (number ≤ 4)
+  pub cut : number ≡ 2 → (length r < 4) ⊎ ((length r < 4 + numberAt r 0) × (allowed (numberAt r 2) (numberAt r 0) ≡ true))
+
 abbrev pub Known : ℕ → List ℕ → Found → Type 0
-Known at r f = (f .number ≡ 0 → Whole at r f) × ((f .number ≡ 0 → ⊥) → (p : Profile) → step r p ≡ stop (f .number))
+Known at r f = (f .number ≡ 0 → Whole at r f) × ((f .number ≡ 0 → ⊥) → Unfound r (f .number))
 
 pub known-found : (at : ℕ) (r : List ℕ) → Known at r (foundFront at r)
 unfolding foundFront step
 known-found at r =
     by-cases (ltb (length r) 4)
-    (λ a. rw a (λ z. absurd (omega arith), λ n p. refl))
+    (λ a. rw a (λ z. absurd (omega arith), λ n. is 2 (λ p. rw a) (omega arith, omega arith) (λ z. inl (ltb-true (length r) 4 a))))
     (λ a.
     by-cases (known (numberAt r 2))
     (λ b.
     by-cases (allowed (numberAt r 2) (numberAt r 0))
     (λ c.
     by-cases (ltb (length r) (4 + numberAt r 0))
-    (λ d. rw (a, b, c, d) (λ z. absurd (omega arith), λ n p. refl))
+    (λ d.
+    rw (a, b, c, d) (
+      λ z. absurd (omega arith),
+      λ n. is 2 (λ p. rw (a, b, c, d)) (omega arith, omega arith) (λ z. inr (ltb-true (length r) (4 + numberAt r 0) d, c)),
+    ))
     (λ d.
     rw (a, b, c, d) (
       λ z.
@@ -61,10 +75,14 @@ known-found at r =
             long = ltb-false (length r) (4 + numberAt r 0) d;
             values = λ p. rw (a, b, c, d);
           },
-      λ n p. absurd (n refl),
+      λ n. absurd (n refl),
     )))
-    (λ c. rw (a, b, c) (λ z. absurd (omega arith), λ n p. refl)))
-    (λ b. rw (a, b) (λ z. absurd (omega arith), λ n p. refl)))
+    (λ c. rw (a, b, c) (λ z. absurd (omega arith), λ n. is 4 (λ p. rw (a, b, c)) (omega arith, omega arith) (λ z. absurd (omega arith)))))
+    (λ b. rw (a, b) (λ z. absurd (omega arith), λ n. is 3 (λ p. rw (a, b)) (omega arith, omega arith) (λ z. absurd (omega arith)))))
+  where
+    is : (n : ℕ) → ((p : Profile) → step r p ≡ stop n) → (2 ≤ n) × (n ≤ 4)
+        → (n ≡ 2 → (length r < 4) ⊎ ((length r < 4 + numberAt r 0) × (allowed (numberAt r 2) (numberAt r 0) ≡ true))) → Unfound r n
+    is n s g c = record { stops = s; range = g; cut = c }
 
 -- what is known of a record that was taken
 pub record Taken (s : List ℕ) (p : Profile) (len : ℕ) (q : Profile) : Type 0 where
@@ -90,36 +108,132 @@ step-taken s p len q e =
     let n : next (numberAt s 0) (withRecord (numberAt s 2) (bodyOf s) p) ≡ next len q = rw f at v in
     record { size = cc; kind = w .known; right = w .right; whole = w .long; values = f; gives = cc })
     (λ f. stop-next 5 len q (rw f at v)))
-    (λ z. stop-next (found .number) len q (sym (known-found 0 s .1 (eqb-false (found .number) 0 z) p) ∙ e))
+    (λ z. stop-next (found .number) len q (sym (known-found 0 s .1 (eqb-false (found .number) 0 z) .stops p) ∙ e))
 
 pub step-next : (s : List ℕ) (p : Profile) (len : ℕ) (q : Profile) → step s p ≡ next len q → 4 + len ≤ length s
 step-next s p len q e = let t = step-taken s p len q e in omega arith
 
--- ---- reading on
+-- a step that is refused says 2, 3, 4 or 5
+pub stop-range : (r : List ℕ) (p : Profile) (n : ℕ) → step r p ≡ stop n → (2 ≤ n) × (n ≤ 5)
+stop-range r p n e =
+    let f = foundFront 0 r in
+    let k = known-found 0 r in
+    by-cases (eqb (f .number) 0)
+    (λ a.
+    let v = sym (k .0 (eqb-true (f .number) 0 a) .values p) ∙ e in
+    by-cases (fits (numberAt r 2) (bodyOf r))
+    (λ b. stop-next n (numberAt r 0) _ (sym (rw b at v)))
+    (λ b. is 5 (rw b at v) (omega arith) (omega arith)))
+    (λ a.
+    let u = k .1 (eqb-false (f .number) 0 a) in
+    is (f .number) (sym (u .stops p) ∙ e) (u .range .0) (omega (arith, u .range .1)))
+  where
+    is : (m : ℕ) → stop m ≡ stop n → 2 ≤ m → m ≤ 5 → (2 ≤ n) × (n ≤ 5)
+    is m e l h = let q : m ≡ n = cc in (omega arith, omega arith)
 
-pub records-skip : (ys rest : List ℕ) (at : ℕ) (p : Profile) → records (length ys) at (ys ++ rest) p ≡ records 0 (at + length ys) rest p
-unfolding records
-records-skip [] rest at p = rw add-zero
-records-skip (y ∷ ys) rest at p = records-skip ys rest (at + 1) p ∙ ap (λ (n : ℕ). records 0 n rest p) (omega arith)
+-- ---- reading on: how far it goes
+
+pub reached-end : (skip : ℕ) (p : Profile) → reached skip [] p ≡ record { number = 0; rest = []; profile = p }
+unfolding reached
+reached-end skip p = refl
+
+pub reached-stop : (x : ℕ) (xs : List ℕ) (n : ℕ) (p : Profile) → step (x ∷ xs) p ≡ stop n
+    → reached 0 (x ∷ xs) p ≡ record { number = n; rest = x ∷ xs; profile = p }
+unfolding reached
+reached-stop x xs n p e = rw (e, reached)
+
+reached-skip : (ys rest : List ℕ) (p : Profile) → reached (length ys) (ys ++ rest) p ≡ reached 0 rest p
+unfolding reached
+reached-skip [] rest p = refl
+reached-skip (y ∷ ys) rest p = reached-skip ys rest p
 
 -- a record that is read, with whatever follows it, is passed over
+pub reached-record : (r rest : List ℕ) (len : ℕ) (p q : Profile) → length r ≡ 4 + len → step (r ++ rest) p ≡ next len q
+    → reached 0 (r ++ rest) p ≡ reached 0 rest q
+unfolding reached
+reached-record [] rest len p q e s = absurd (omega arith)
+reached-record (x ∷ ys) rest len p q e s =
+    let n : afterFirst len ≡ length ys = omega arith in
+    rw (s, reached, n) (reached-skip ys rest q)
+
+-- for a reader in code, whose s is what is left of the script
+pub reached-next : (s : List ℕ) (len : ℕ) (p q : Profile) → step s p ≡ next len q → reached 0 s p ≡ reached 0 (drop (4 + len) s) q
+reached-next s len p q e =
+    let t = take-append-drop (4 + len) s in
+    let l = length-take-le (4 + len) s (step-next s p len q e) in
+    ap (λ (r : List ℕ). reached 0 r p) (sym t)
+    ∙ reached-record (take (4 + len) s) (drop (4 + len) s) len p q l (ap (λ (r : List ℕ). step r p) t ∙ e)
+
+-- what is left is the end of what there was
+abbrev Ends : List ℕ → Type 0
+Ends s = (skip : ℕ) (p : Profile) → drop (length s - length (reached skip s p .rest)) s ≡ reached skip s p .rest
+
+-- of the end of xs: it is no longer, and the end of x ∷ xs
+shorter : (xs rest : List ℕ) → drop (length xs - length rest) xs ≡ rest → length rest ≤ length xs
+shorter xs rest e = omega (arith, ap length e, length-drop (length xs - length rest) xs)
+
+ends-more : (x : ℕ) (xs rest : List ℕ) → drop (length xs - length rest) xs ≡ rest → drop (length (x ∷ xs) - length rest) (x ∷ xs) ≡ rest
+ends-more x xs rest e =
+    let k : length (x ∷ xs) - length rest ≡ suc (length xs - length rest) = omega (arith, shorter xs rest e) in
+    rw k e
+
+pub reached-ends : (s : List ℕ) → Ends s
+unfolding reached
+reached-ends [] skip p = refl
+reached-ends (x ∷ xs) (suc skip) p = ends-more x xs (reached skip xs p .rest) (reached-ends xs skip p)
+reached-ends (x ∷ xs) zero p = go (reached-ends xs) (step (x ∷ xs) p) refl
+  where
+    go : Ends xs → (y : Stepped) → step (x ∷ xs) p ≡ y → drop (length (x ∷ xs) - length (reached 0 (x ∷ xs) p .rest)) (x ∷ xs) ≡ reached 0 (x ∷ xs) p .rest
+    go ih (stop n) e = let k : length (x ∷ xs) - length (x ∷ xs) ≡ 0 = omega arith in rw (e, reached, k)
+    go ih (next len q) e = rw (e, reached) (ends-more x xs (reached (afterFirst len) xs q .rest) (ih (afterFirst len) q))
+
+pub reached-inside : (s : List ℕ) (skip : ℕ) (p : Profile) → length (reached skip s p .rest) ≤ length s
+reached-inside s skip p = shorter s (reached skip s p .rest) (reached-ends s skip p)
+
+-- ---- reading on: the answer
+
+-- the answer of reading s from an offset on, by how far that went
+abbrev pub answered : ℕ → List ℕ → Reached → ReadAnswer
+answered at s r = readAnswer (verdictOf (r .number) (at + length s - length (r .rest))) (r .profile)
+
+abbrev Answers : List ℕ → Type 0
+Answers s = (skip at : ℕ) (p : Profile) → records skip at s p ≡ answered at s (reached skip s p)
+
+pub records-reached : (s : List ℕ) → Answers s
+unfolding records reached
+records-reached [] skip at p = refl
+records-reached (x ∷ xs) zero at p = go (records-reached xs) (step (x ∷ xs) p) refl
+  where
+    go : Answers xs → (y : Stepped) → step (x ∷ xs) p ≡ y → records 0 at (x ∷ xs) p ≡ answered at (x ∷ xs) (reached 0 (x ∷ xs) p)
+    go ih (stop n) e =
+        let k : at + length (x ∷ xs) - length (x ∷ xs) ≡ at = omega arith in
+        let z = ne-eqb n 0 (omega (arith, stop-range (x ∷ xs) p n e .0)) in
+        let v : verdictOf n at ≡ refused n at = rw z in
+        rw (e, records, reached, k) (ap (λ (v : Verdict). readAnswer v p) (sym v))
+    go ih (next len q) e =
+        let k : at + 1 + length xs ≡ at + length (x ∷ xs) = omega arith in
+        rw (e, records, reached, ← k) (ih (afterFirst len) (at + 1) q)
+records-reached (x ∷ xs) (suc skip) at p =
+    let k : at + 1 + length xs ≡ at + length (x ∷ xs) = omega arith in
+    rw (← k) (records-reached xs skip (at + 1) p)
+
+-- by what code answers of how far it went
+pub records-read : (s : List ℕ) (p : Profile) (at place : ℕ) (t : RecordAnswer) → t ≡ reachedAnswer s (reached 0 s p) → place ≡ at + t .next
+    → readAnswer (verdictOf (t .number) place) (t .profile) ≡ records 0 at s p
+records-read s p at place t e k =
+    let r = reached 0 s p in
+    let m : at + (length s - length (r .rest)) ≡ at + length s - length (r .rest) = omega (arith, reached-inside s 0 p) in
+    rw (k, e, m) (sym (records-reached s 0 at p))
+
+-- what is read up to its end and what is read from there on, from an offset that fits, have one answer
+pub reads-on : (at from : ℕ) (s t : List ℕ) (p q : Profile) → at + length s ≡ from + length t → reached 0 s p ≡ reached 0 t q
+    → records 0 at s p ≡ records 0 from t q
+reads-on at from s t p q k e = records-reached s 0 at p ∙ rw (k, e) (sym (records-reached t 0 from q))
+
 pub read-record : (r rest : List ℕ) (at len : ℕ) (p q : Profile) → length r ≡ 4 + len → step (r ++ rest) p ≡ next len q
     → records 0 at (r ++ rest) p ≡ records 0 (at + length r) rest q
-unfolding records
-read-record [] rest at len p q e s = absurd (omega arith)
-read-record (x ∷ ys) rest at len p q e s =
-    let n : afterFirst len ≡ length ys = omega arith in
-    rw (s, records, n) (records-skip ys rest (at + 1) q ∙ ap (λ (m : ℕ). records 0 m rest q) (omega arith))
-
--- for a reader in code, whose s is what is left of the script from at on
-pub records-next : (s : List ℕ) (at len : ℕ) (p q : Profile) → 4 + len ≤ length s → step s p ≡ next len q
-    → records 0 at s p ≡ records 0 (at + (4 + len)) (drop (4 + len) s) q
-records-next s at len p q h e =
-    let t = take-append-drop (4 + len) s in
-    let l = length-take-le (4 + len) s h in
-    ap (λ (r : List ℕ). records 0 at r p) (sym t)
-    ∙ read-record (take (4 + len) s) (drop (4 + len) s) at len p q l (ap (λ (r : List ℕ). step r p) t ∙ e)
-    ∙ ap (λ (n : ℕ). records 0 (at + n) (drop (4 + len) s) q) l
+read-record r rest at len p q e s =
+    reads-on at (at + length r) (r ++ rest) rest p q (omega (arith, length-append r rest)) (reached-record r rest len p q e s)
 
 pub records-stop : (x : ℕ) (xs : List ℕ) (at n : ℕ) (p : Profile) → step (x ∷ xs) p ≡ stop n
     → records 0 at (x ∷ xs) p ≡ readAnswer (refused n at) p

@@ -11,4 +11,5 @@ pub mod Obeys
 pub mod Script
 pub mod Records
 pub mod Writing
+pub mod Upload
 pub mod Reading

@@ -1,14 +1,14 @@
--- Nobody has to believe this file: it names the answers of the reader's parts in code by the definitions of Script, and proofs/Readers.antt,
--- proofs/Takes.antt and proofs/OneRecord.antt show that they are the same.
+-- Nobody has to believe this file: it names the answers of the readers' parts in code by the definitions of Script and Upload, and proofs/Readers.antt,
+-- proofs/Takes.antt, proofs/OneRecord.antt and proofs/Uploads.antt show that they are the same.
 -- Assumes nothing.
 use Prim.Native.Nat.{ℕ, _+_, _-_}
-use mathlib.Core.List.{List, _++_}
+use mathlib.Core.List.{List, [], _∷_, _++_}
 use mathlib.Core.Bool.{Bool, true, cond, not}
 use lib.ListN.{length, drop, replicate}
-use lib.Dec.{ltb}
+use lib.Dec.{ltb, eqb}
 use Rattle.profile.specs.Lists.{all, chunks}
 use Rattle.profile.specs.Bytes.{numberAt}
-use Rattle.profile.specs.Values.{none, emptyRegion, setTables, setField}
+use Rattle.profile.specs.Values.{none, emptyRegion, setTables, setField, accepted, refused}
 use Rattle.profile.specs.Script.{
   headLength,
   registerFits,
@@ -34,13 +34,17 @@ use Rattle.profile.specs.Script.{
   stop,
   next,
 }
+use Rattle.profile.specs.Upload.{Reached}
 use Rattle.profile.specs.declared.Field.{Field}
 use Rattle.profile.specs.declared.Profile.{Profile}
+use Rattle.profile.specs.declared.Verdict.{Verdict}
 use Rattle.profile.specs.declared.records.BodyAnswer.{BodyAnswer}
 use Rattle.profile.specs.declared.records.RegionAnswer.{RegionAnswer}
 use Rattle.profile.specs.declared.records.RegionsAnswer.{RegionsAnswer}
 use Rattle.profile.specs.declared.records.Found.{Found}
 use Rattle.profile.specs.declared.records.RecordAnswer.{RecordAnswer}
+use Rattle.profile.specs.declared.upload.Arrival.{Arrival}
+use Rattle.profile.specs.declared.upload.Filled.{Filled}
 
 -- whether a body's values fit, and the profile with its item where they do
 abbrev pub bodyAnswer : Bool → Profile → Profile → BodyAnswer
@@ -110,3 +114,29 @@ stepAnswer at p (next len q) = record { number = 0; next = at + (4 + len); profi
 -- The answer of the record at an offset of a script.
 abbrev pub recordAnswer : List ℕ → ℕ → Profile → RecordAnswer
 recordAnswer s at p = stepAnswer at p (step (drop at s) p)
+
+-- The answer of the records from an offset of a script on: the place at which reading stops is the length less what is left.
+abbrev pub reachedAnswer : List ℕ → Reached → RecordAnswer
+reachedAnswer s r = record { number = r .number; next = length s - length (r .rest); profile = r .profile }
+
+-- 0 is no refusal
+abbrev pub verdictOf : ℕ → ℕ → Verdict
+verdictOf number place = cond (eqb number 0) accepted (refused number place)
+
+-- ---- a record that arrives in parts
+
+-- whether the bytes of a record so far say that it is cut
+abbrev pub cutFront : List ℕ → Bool
+cutFront s = eqb (foundFront 0 s .number) 2
+
+-- a record with as many of the bytes that follow as it waits for
+unfoldable pub filled : List ℕ → List ℕ → List ℕ
+filled h [] = h
+filled h (x ∷ xs) = cond (cutFront h) (filled (h ++ x ∷ []) xs) h
+
+abbrev pub filledAnswer : List ℕ → List ℕ → Filled
+filledAnswer old h = record { held = length h; bytes = h ++ drop (length h) old; cut = cutFront h }
+
+-- what has arrived where so many bytes came and a record waits for more
+abbrev pub filledArrival : ℕ → Filled → Arrival
+filledArrival total f = record { length = total; number = 0; place = 0; held = f .held; bytes = f .bytes }

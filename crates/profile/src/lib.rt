@@ -7,6 +7,7 @@ mod patterns;
 mod ranges;
 mod records;
 mod rules;
+pub mod upload;
 mod values;
 mod versions;
 mod writing;

@@ -28,7 +28,7 @@ use crate::versions::newest_rules;
 ghost use mathlib.Core.Path.{_≡_};
 ghost use mathlib.Core.Bool.{true, false, cond};
 ghost use Prim.Native.Nat.{_+_, _*_, _<_, _≤_};
-ghost use lib.ListN.{length};
+ghost use lib.ListN.{length, drop};
 ghost use Rattle.profile.specs.Bytes.{numberAt, dataAt};
 ghost use Rattle.profile.specs.Values.{none, emptyProfile, setTables, readAnswer};
 ghost use Rattle.profile.specs.Versions.{newestRules};
@@ -47,8 +47,10 @@ ghost use Rattle.profile.specs.Script.{
   fits,
   withRecord,
   records,
+  judged,
   readScript,
 };
+ghost use Rattle.profile.specs.Upload.{reached};
 ghost use Rattle.profile.specs.Reading.{
   registerAnswer,
   sequenceAnswer,
@@ -63,6 +65,7 @@ ghost use Rattle.profile.specs.Reading.{
   unfound,
   foundAt,
   recordAnswer,
+  reachedAnswer,
 };
 
 // The kinds are 1 to 6.
@@ -72,7 +75,7 @@ const KINDS: u16 = 6;
 pub(crate) const REGION: usize = 6;
 
 // The most bytes of a script that is read.
-const MOST_BYTES: usize = 16384;
+pub(crate) const MOST_BYTES: usize = 16384;
 
 // ---- numbers of a body, little-endian
 
@@ -89,7 +92,7 @@ fn wider(x: u8) -> u32
 }
 
 // The number of two bytes.
-fn number_at(body: &[u8], at: usize) -> u16
+pub(crate) fn number_at(body: &[u8], at: usize) -> u16
     requires { ⌜ at + 1 < length (now body) ⌝ }
     ensures { λ r. ⌜ r ≡ numberAt (now (body .entry)) at ⌝ }
 {
@@ -569,7 +572,7 @@ fn record_by(script: &[u8], at: usize, profile: Profile) -> RecordAnswer
 // ---- all records
 
 // A verdict with its profile: the empty one with a refusal.
-fn make_answer(verdict: Verdict, profile: Profile) -> ReadAnswer
+pub(crate) fn make_answer(verdict: Verdict, profile: Profile) -> ReadAnswer
     ensures { λ r. ⌜ r ≡ readAnswer verdict profile ⌝ }
 {
     if verdict.number != 0 {
@@ -602,6 +605,34 @@ pub fn read_records(script: &[u8]) -> ReadAnswer
     make_answer(accept(), profile)
 }
 
+// The records from an offset on, up to the script's end or to one that is refused: 0 or its number, where it starts, the profile of those before it.
+pub(crate) fn records_from(script: &[u8], start: usize, profile: Profile) -> RecordAnswer
+    requires { ⌜ start ≤ length (now script) ⌝ }
+    ensures { λ r. ⌜ r ≡ reachedAnswer (now (script .entry)) (reached 0 (drop start (now (script .entry))) profile) ⌝ }
+{
+    let mut answer = RecordAnswer {
+        number: 0,
+        next: start,
+        profile: profile,
+    };
+    while (answer.number == 0) & (answer.next < script.len()) {
+        answer = record_by(script, answer.next, answer.profile);
+    }
+    answer
+}
+
+// What is judged of the profile (6 to 17), where the records were taken.
+pub(crate) fn judged_answer(rules: Ruleset, taken: ReadAnswer) -> ReadAnswer
+    ensures { λ r. ⌜ r ≡ judged rules taken ⌝ }
+{
+    let verdict = taken.verdict;
+    if verdict.number != 0 {
+        return taken;
+    }
+    let profile = taken.profile;
+    make_answer(judge(rules, profile), profile)
+}
+
 // Reads a script: its length (1), its records (2 to 5), then what is judged of the profile (6 to 17).
 pub fn read_in(rules: Ruleset, script: &[u8]) -> ReadAnswer
     ensures { λ r. ⌜ r ≡ readScript rules (now (script .entry)) ⌝ }
@@ -609,13 +640,7 @@ pub fn read_in(rules: Ruleset, script: &[u8]) -> ReadAnswer
     if MOST_BYTES < script.len() {
         return make_answer(refuse(1, 0), empty());
     }
-    let taken = read_records(script);
-    let verdict = taken.verdict;
-    if verdict.number != 0 {
-        return taken;
-    }
-    let profile = taken.profile;
-    make_answer(judge(rules, profile), profile)
+    judged_answer(rules, read_records(script))
 }
 
 // The same by the newest rules.

@@ -2,6 +2,7 @@
 //! every mode, edge and slip that 01 names. What depends on the rule version is
 //! asked by both, and every compile of both engines.
 
+mod chunks;
 mod edges;
 mod full;
 mod gate_lines;
@@ -19,11 +20,14 @@ use crate::make::*;
 use crate::profile::Profile;
 use crate::ranges::check_ranges;
 use crate::rules::check;
+use crate::upload::Upload;
+use crate::version::NEWEST;
 
 pub fn cases() -> Vec<Case> {
     let mut batch = Batch { cases: Vec::new() };
     w::add(&mut batch);
     reading::add(&mut batch);
+    chunks::add(&mut batch);
     ranges::add(&mut batch);
     rules::add(&mut batch);
     gate_lines::add(&mut batch);
@@ -55,6 +59,23 @@ struct Batch {
 impl Batch {
     fn read(&mut self, script: Vec<u8>) {
         self.cases.push(Case::Read { script });
+    }
+
+    fn chunks_by(&mut self, version: u16, script: &[u8], lengths: &[u16]) {
+        self.cases.push(Case::ReadChunks { version, lengths: lengths.to_vec(), script: script.to_vec() });
+    }
+
+    fn chunks(&mut self, script: &[u8], lengths: &[u16]) {
+        self.chunks_by(NEWEST, script, lengths);
+    }
+
+    fn read_on_by(&mut self, version: u16, upload: &Upload, bytes: &[u8], lengths: &[u16]) {
+        let (lengths, bytes) = (lengths.to_vec(), bytes.to_vec());
+        self.cases.push(Case::ReadOn { upload: upload.clone(), version, lengths, bytes });
+    }
+
+    fn read_on(&mut self, upload: &Upload, bytes: &[u8], lengths: &[u16]) {
+        self.read_on_by(NEWEST, upload, bytes, lengths);
     }
 
     fn check(&mut self, profile: &Profile) {

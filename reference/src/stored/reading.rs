@@ -47,7 +47,7 @@ fn sizes(batch: &mut Batch) {
 }
 
 /// Registers, one more sequence and A's script, 16,384 bytes in all.
-fn full_script() -> Vec<u8> {
+pub fn full_script() -> Vec<u8> {
     let end = [record(2, &[5, 9, 4095, 4095, 4095, 4095, 3]), script_a()].concat();
     let mut script = Vec::new();
     while script.len() + end.len() < SCRIPT_MOST {
@@ -71,7 +71,7 @@ fn cuts(batch: &mut Batch) {
     }
 }
 
-fn one_of_each_kind() -> Vec<Vec<u8>> {
+pub fn one_of_each_kind() -> Vec<Vec<u8>> {
     vec![
         register(17, 0xABCDEF),
         record(2, &[3, 0, 10, 2, 1, 2, 0]),

@@ -222,7 +222,7 @@ fn asked(cases: &[Case]) -> Asked {
             | Case::NextEdge { profile, .. }
             | Case::Locate { profile, .. }
             | Case::Compile { profile, .. } => asked.profiles.push((*profile, check(profile))),
-            Case::Play { .. } | Case::Text { .. } => {}
+            Case::Play { .. } | Case::Text { .. } | Case::ReadChunks { .. } | Case::ReadOn { .. } => {}
         }
     }
     asked

@@ -37,7 +37,7 @@ loop-again c =
     let d = c .before .before .before in
     let l = d .before .before .loop in
     let s = d .before .before .before .before .before .args .script .now in
-    read-on s (l .at) (l .profile) _ (d .record-by .ensures) (c .before .if1 .left) ∙ l .inv
+    read-on s (l .at) (l .profile) _ (d .record-by .ensures) (c .before .if1 .left) (d .before .loop-test .taken) ∙ l .inv
 
 returns-2 : tie.Need-returns-2 Inv-loop μ-loop
 returns-2 c =

@@ -1,0 +1,18 @@
+-- Each answer adds at most 131,070.
+-- Assumes nothing.
+use Prim.Native.Nat.{_≤_, _*_, _-_}
+use borrow.Author.Needs.{needs}
+use Rattle.bench.proofs.uploads.uploads_sum.Statement.{statement}
+use Rattle.bench.proofs.uploads.uploads_sum.Tie as tie
+
+abbrev Inv-loop : tie.InvT-loop
+Inv-loop script size sum₀ k₀ sum k = (k ≤ 1000) × (sum ≤ 131070 * k)
+
+abbrev μ-loop : tie.MeasureT-loop
+μ-loop script size sum₀ k₀ sum k = 1000 - k
+
+pub uploads-sum-spec : {M : Type 1} → statement M
+uploads-sum-spec =
+    tie.close
+    (tie.spec Inv-loop μ-loop (λ c. search needs) (λ c κs. search needs) (λ c κs. search needs) (λ c κs. search needs) (λ c. search needs)
+    (λ c. search needs) (λ c. search needs) (λ c. search needs) (λ c. search needs))
