@@ -7,17 +7,17 @@ use mathlib.Core.Logic.{_⊎_, inl, inr}
 use mathlib.Core.List.{List, [], _∷_, _++_}
 use Prim.Native.Nat.{ℕ, _+_, _≤_, _<_}
 use native.Mathlib.Omega.{arith}
-use borrow.Author.Tests.{ltb-true, ltb-false, le-ltb, eqb-true, eqb-false}
+use borrow.Author.Tests.{ltb-true, ltb-false, le-ltb, eqb-true}
 use lib.Dec.{ltb, eqb}
 use lib.ListN.{length, take, drop, length-append, length-drop, List·getD-append}
 use lib.Seq.{take-append-le, drop-append-le}
 use Rattle.profile.specs.Bytes.{numberAt}
-use Rattle.profile.specs.Script.{hasForm, known, allowed, fits, bodyOf, Stepped, stop, next, step, judged}
+use Rattle.profile.specs.Script.{hasForm, known, allowed, bodyOf, Stepped, stop, next, step, judged}
 use Rattle.profile.specs.Reading.{foundFront, cutFront}
 use Rattle.profile.specs.declared.Profile.{Profile}
 use Rattle.profile.proofs.Laws.{by-cases, cond-case, or-cases}
 use Rattle.profile.proofs.Forms.{says-form}
-use Rattle.profile.proofs.Takes.{known-found, step-taken}
+use Rattle.profile.proofs.Takes.{Unfound, known-found, step-taken, stop-found}
 
 -- ---- a record that is cut so far
 
@@ -86,22 +86,11 @@ step-front r rest p h =
 
 -- what a step says of the record's end
 pub cut-stop : (r : List ℕ) (p : Profile) (n : ℕ) → step r p ≡ stop n → cutFront r ≡ eqb n 2
-cut-stop r p n e =
-    let f = foundFront 0 r in
-    by-cases (eqb (f .number) 0)
-    (λ a.
-    let z = eqb-true (f .number) 0 a in
-    let v = sym (known-found 0 r .0 z .values p) ∙ e in
-    by-cases (fits (numberAt r 2) (bodyOf r))
-    (λ b. absurd (next-stop (numberAt r 0) _ (rw b at v)))
-    (λ b. let q : 5 ≡ n = same 5 (rw b at v) in rw (z, ← q)))
-    (λ a. let q = same (f .number) (sym (known-found 0 r .1 (eqb-false (f .number) 0 a) .stops p) ∙ e) in rw q)
+cut-stop r p n e = by (stop-found r p n e)
   where
-    next-stop : (len : ℕ) (q : Profile) → next len q ≡ stop n → ⊥
-    next-stop len q e = let z : _≡_ {A = ℕ} 0 1 = cc in omega arith
-
-    same : (m : ℕ) → stop m ≡ stop n → m ≡ n
-    same m e = cc
+    by : ((foundFront 0 r .number ≡ n) × Unfound r n) ⊎ ((foundFront 0 r .number ≡ 0) × (n ≡ 5)) → cutFront r ≡ eqb n 2
+    by (inl u) = rw (u .0)
+    by (inr h) = rw (h .0, h .1)
 
 pub uncut : (r : List ℕ) (p : Profile) → cutFront r ≡ false → step r p ≡ stop 2 → ⊥
 uncut r p c e = false≢true (sym c ∙ cut-stop r p 2 e)

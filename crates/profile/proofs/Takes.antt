@@ -113,23 +113,34 @@ step-taken s p len q e =
 pub step-next : (s : List ℕ) (p : Profile) (len : ℕ) (q : Profile) → step s p ≡ next len q → 4 + len ≤ length s
 step-next s p len q e = let t = step-taken s p len q e in omega arith
 
--- a step that is refused says 2, 3, 4 or 5
-pub stop-range : (r : List ℕ) (p : Profile) (n : ℕ) → step r p ≡ stop n → (2 ≤ n) × (n ≤ 5)
-stop-range r p n e =
+-- a step that is refused: the record was not found whole, for that number, or it was and its values are not right
+pub stop-found : (r : List ℕ) (p : Profile) (n : ℕ) → step r p ≡ stop n
+    → ((foundFront 0 r .number ≡ n) × Unfound r n) ⊎ ((foundFront 0 r .number ≡ 0) × (n ≡ 5))
+stop-found r p n e =
     let f = foundFront 0 r in
     let k = known-found 0 r in
     by-cases (eqb (f .number) 0)
     (λ a.
-    let v = sym (k .0 (eqb-true (f .number) 0 a) .values p) ∙ e in
+    let z = eqb-true (f .number) 0 a in
+    let v = sym (k .0 z .values p) ∙ e in
     by-cases (fits (numberAt r 2) (bodyOf r))
     (λ b. stop-next n (numberAt r 0) _ (sym (rw b at v)))
-    (λ b. is 5 (rw b at v) (omega arith) (omega arith)))
+    (λ b. inr (z, sym (same 5 (rw b at v)))))
     (λ a.
     let u = k .1 (eqb-false (f .number) 0 a) in
-    is (f .number) (sym (u .stops p) ∙ e) (u .range .0) (omega (arith, u .range .1)))
+    let q = same (f .number) (sym (u .stops p) ∙ e) in
+    inl (q, rw q at u))
   where
-    is : (m : ℕ) → stop m ≡ stop n → 2 ≤ m → m ≤ 5 → (2 ≤ n) × (n ≤ 5)
-    is m e l h = let q : m ≡ n = cc in (omega arith, omega arith)
+    same : (m : ℕ) → stop m ≡ stop n → m ≡ n
+    same m e = cc
+
+-- with 2, 3, 4 or 5
+pub stop-range : (r : List ℕ) (p : Profile) (n : ℕ) → step r p ≡ stop n → (2 ≤ n) × (n ≤ 5)
+stop-range r p n e = by (stop-found r p n e)
+  where
+    by : ((foundFront 0 r .number ≡ n) × Unfound r n) ⊎ ((foundFront 0 r .number ≡ 0) × (n ≡ 5)) → (2 ≤ n) × (n ≤ 5)
+    by (inl u) = (u .1 .range .0, omega (arith, u .1 .range .1))
+    by (inr h) = (omega (arith, h .1), omega (arith, h .1))
 
 -- ---- reading on: how far it goes
 
