@@ -9,7 +9,7 @@ use profile::{
     region_at, region_size, rows_of, sequence_at, shutter_of,
 };
 
-#[derive(Drop)]
+#[derive(Clone, Copy)]
 pub struct Figures {
     pub first: u64,
     pub second: u64,

@@ -1,4 +1,6 @@
 // Reads a question and a script from standard input and prints the answer. specs/Question.antt and specs/Answer.antt have the questions.
+#![tactic(auto)]
+
 mod answers;
 mod figures;
 mod question;

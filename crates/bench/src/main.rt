@@ -5,6 +5,8 @@
 // The numbers are decimal, with one byte between two of them: the half registers of patterns 0 and 1, as a profile holds them, then
 // length, mode, start, repetitions, mask bits, whether the second pattern acts; acts, level and two toggles of VSG1 to VSG5 and of SUBCK;
 // level, from and to of MSHUT and of STROBE. bench/levels.c does the same by the same rules in C.
+#![tactic(auto)]
+
 mod lists;
 mod places;
 mod uploads;

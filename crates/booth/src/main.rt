@@ -1,4 +1,6 @@
 // Reads a script from standard input and prints its hold list, or why it is refused.
+#![tactic(auto)]
+
 ghost use Rattle.std.specs.Prelude.{◌≡◌, ◌≤◌, length, take};
 ghost use Rattle.profile.specs.Versions.{newest_rules};
 ghost use Rattle.holdlist.specs.Prints.{Prints};

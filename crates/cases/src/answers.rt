@@ -185,7 +185,7 @@ fn put_locate(out: &mut [u8], at: usize, payload: &[u8]) -> usize
 }
 
 // The compile that is asked: pixel by pixel, or from edge to edge. Both have the same answers.
-#[derive(Drop)]
+#[derive(Clone, Copy)]
 enum Engine {
     Pixels,
     Edges,

@@ -1,4 +1,6 @@
 // Reads a batch of cases from standard input and prints what the entry points answer. tests/cases/FORMAT.md has the format of both.
+#![tactic(auto)]
+
 mod answers;
 mod chunks;
 mod raw;
@@ -12,7 +14,7 @@ use libc::{STDERR_FILENO, STDOUT_FILENO};
 use standard_input::{Input, read_all};
 
 // How a case went.
-#[derive(Drop)]
+#[derive(Clone, Copy)]
 enum Outcome {
     Answered,
     Ended,

@@ -11,7 +11,7 @@ use level::{Line, fill, line_on, stretches, strip_of};
 use profile::{Field, Tables, end_line, region_at, region_count};
 
 // How the words of a line are made: at each pixel, or from edge to edge.
-#[derive(Drop)]
+#[derive(Clone, Copy)]
 pub(crate) enum Engine {
     Pixels,
     Edges,

@@ -1,4 +1,6 @@
 // Hold lists: u32 counts beside u16 words. A field is compiled into the shortest list that plays it.
+#![tactic(auto)]
+
 use profile::Verdict;
 
 mod answering;
@@ -17,19 +19,19 @@ pub use text::{
 };
 
 // A word held for a number of positions.
-#[derive(Drop)]
+#[derive(Clone, Copy)]
 pub struct Step {
     pub count: u32,
     pub word: u16,
 }
 
-#[derive(Drop)]
+#[derive(Clone, Copy)]
 pub struct Played {
     pub verdict: Verdict,
     pub word: u16,
 }
 
-#[derive(Drop)]
+#[derive(Clone, Copy)]
 pub struct Compiled {
     pub verdict: Verdict,
     pub steps: usize,

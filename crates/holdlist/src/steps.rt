@@ -6,7 +6,7 @@ ghost use Rattle.holdlist.specs.Fills.{over_fit, Writes, Fills};
 use crate::Step;
 
 // How many steps were closed, and the step that is open now.
-#[derive(Drop)]
+#[derive(Clone, Copy)]
 pub struct Filled {
     pub steps: usize,
     pub held: Step,

@@ -7,7 +7,7 @@ ghost use Rattle.level.specs.Ready.{begins_with, run_pixels, run_at, times_at, f
 use crate::keys::{cap, next_key, six};
 
 // `levels` begin the repetitions of even number, `turned` those of odd number; `times` says that the toggles are multiplied.
-#[derive(Drop)]
+#[derive(Clone, Copy)]
 pub struct First {
     pub times: bool,
     pub levels: u16,
@@ -20,7 +20,7 @@ pub struct First {
 }
 
 // The levels at a pixel, and how far on the next edge is.
-#[derive(Drop)]
+#[derive(Clone, Copy)]
 pub struct Ahead {
     pub levels: u16,
     pub far: u16,

@@ -1,4 +1,6 @@
 // The word of 14 output levels at every line and pixel of a field. A line holds where everything acts on it; the word says the levels.
+#![tactic(auto)]
+
 mod first;
 mod keys;
 mod lines;
@@ -20,7 +22,7 @@ use profile::{Field, Gate, Mode, Pattern, Sequence, Shutter, Subck, Verdict};
 pub use stops::stretches;
 
 // How V1 to V6 run on a line: each repetition starts afresh, or takes over the levels that the last one ended with, or the toggles are multiplied.
-#[derive(Drop)]
+#[derive(Clone, Copy)]
 pub enum Run {
     Afresh,
     Carried,
@@ -28,7 +30,7 @@ pub enum Run {
 }
 
 // A freeze and resume pair, and whether the mask turns it on.
-#[derive(Drop)]
+#[derive(Clone, Copy)]
 pub struct Mask {
     pub on: bool,
     pub freeze: u16,
@@ -36,7 +38,7 @@ pub struct Mask {
 }
 
 // A gate or SUBCK on one line: its start level, and whether its two toggles act here.
-#[derive(Drop)]
+#[derive(Clone, Copy)]
 pub struct Pulse {
     pub acts: bool,
     pub level: u16,
@@ -45,7 +47,7 @@ pub struct Pulse {
 }
 
 // A shutter on one line: active from one pixel up to, and not including, another.
-#[derive(Drop)]
+#[derive(Clone, Copy)]
 pub struct Span {
     pub level: u16,
     pub from: u16,
@@ -53,7 +55,7 @@ pub struct Span {
 }
 
 // All that one line needs. `origin` is the number of its region's pixels before it, in plain 0; `second_acts` says that the second pattern acts on it.
-#[derive(Drop)]
+#[derive(Clone, Copy)]
 pub struct Line {
     pub length: u16,
     pub run: Run,
@@ -72,7 +74,7 @@ pub struct Line {
 }
 
 // What all lines of a region share: how V1 to V6 run there, its first line, its sequence and that one's pattern, and what acts anywhere in the field.
-#[derive(Drop)]
+#[derive(Clone, Copy)]
 pub struct Strip {
     pub run: Run,
     pub mode: Mode,
@@ -86,13 +88,13 @@ pub struct Strip {
     pub shutters: [Shutter; 2],
 }
 
-#[derive(Drop)]
+#[derive(Clone, Copy)]
 pub struct LevelAnswer {
     pub verdict: Verdict,
     pub word: u16,
 }
 
-#[derive(Drop)]
+#[derive(Clone, Copy)]
 pub struct Located {
     pub verdict: Verdict,
     pub line: u64,
@@ -100,7 +102,7 @@ pub struct Located {
 }
 
 // Whether there is a next edge, and where.
-#[derive(Drop)]
+#[derive(Clone, Copy)]
 pub struct Edge {
     pub verdict: Verdict,
     pub found: bool,

@@ -7,7 +7,7 @@ ghost use Rattle.level.specs.Ready.{edges_at, edges_edge, eight_at, eight_edge, 
 use crate::masks::until;
 
 // Its level before both edges, and the pixels where it flips.
-#[derive(Drop)]
+#[derive(Clone, Copy)]
 pub struct Edges {
     pub level: u16,
     pub on: u16,
@@ -15,7 +15,7 @@ pub struct Edges {
 }
 
 // The eight, and their levels up to the first edge after pixel 0.
-#[derive(Drop)]
+#[derive(Clone, Copy)]
 pub struct Others {
     pub first: u16,
     pub steady: u16,

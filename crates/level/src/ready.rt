@@ -10,7 +10,7 @@ use crate::masks::{holds, mask_next, shown};
 use crate::others::{Others, others_at, others_next};
 use crate::second::{Second, begun, second_at, second_next, second_start};
 
-#[derive(Drop)]
+#[derive(Clone, Copy)]
 pub struct Ready {
     pub first: First,
     pub second: Second,
@@ -20,7 +20,7 @@ pub struct Ready {
 }
 
 // The word at a pixel, and the next pixel at which it can change.
-#[derive(Drop)]
+#[derive(Clone, Copy)]
 pub struct Reach {
     pub word: u16,
     pub stop: u16,

@@ -6,7 +6,7 @@ ghost use Rattle.level.specs.Ready.{begun_at, second_at, second_edge};
 use crate::keys::{next_key, six};
 use crate::masks::until;
 
-#[derive(Drop)]
+#[derive(Clone, Copy)]
 pub struct Second {
     pub acts: bool,
     pub levels: u16,

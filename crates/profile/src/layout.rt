@@ -3,7 +3,7 @@ ghost use Rattle.std.specs.Prelude.{◌≡◌, ◌<◌, leb};
 ghost use Rattle.profile.specs.Layout.{pattern_named, part_named, Follows, EachOnce, part_limit, half_limit};
 
 // A part of a pattern: its start levels, its length, a toggle (output 1 to 6, toggle 1 to 3), the freeze or the resume of a pair (1 or 2).
-#[derive(Drop)]
+#[derive(Clone, Copy)]
 pub enum Part {
     Levels,
     Length,

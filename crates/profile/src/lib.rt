@@ -1,5 +1,7 @@
 // Scripts and profiles. A profile is what a script carries: the 120 registers as 240 half registers, sequences, the field, gates, SUBCK and
 // shutters. Numbers are u16 as the records carry them, levels and on flags too (0 or 1); presence is a bool.
+#![tactic(auto)]
+
 mod geometry;
 mod layout;
 mod limits;
@@ -25,21 +27,21 @@ pub use versions::{NEWEST, newest_rules, ruleset_of};
 pub use writing::{write, write_in};
 
 // How the six V outputs run in a region.
-#[derive(Drop)]
+#[derive(Clone, Copy)]
 pub enum Mode {
     Plain,
     Sweep,
     Multiplier,
 }
 
-#[derive(Drop)]
+#[derive(Clone, Copy)]
 pub struct Region {
     pub first: u16,
     pub sequence: u16,
     pub mode: Mode,
 }
 
-#[derive(Drop)]
+#[derive(Clone, Copy)]
 pub struct Sequence {
     pub present: bool,
     pub pattern: u16,
@@ -52,7 +54,7 @@ pub struct Sequence {
 
 // `last` is the length of the last line, `gate` and `gate2` are the gate lines, `second` is the second pattern's number; of `gate2` and `second`
 // 65,535 is none. An absent field has 0 for each.
-#[derive(Drop)]
+#[derive(Clone, Copy)]
 pub struct Field {
     pub present: bool,
     pub lines: u16,
@@ -64,7 +66,7 @@ pub struct Field {
     pub regions: [Region; 7],
 }
 
-#[derive(Drop)]
+#[derive(Clone, Copy)]
 pub struct Gate {
     pub present: bool,
     pub on: u16,
@@ -73,7 +75,7 @@ pub struct Gate {
     pub toggle2: u16,
 }
 
-#[derive(Drop)]
+#[derive(Clone, Copy)]
 pub struct Subck {
     pub present: bool,
     pub level: u16,
@@ -83,7 +85,7 @@ pub struct Subck {
     pub count: u16,
 }
 
-#[derive(Drop)]
+#[derive(Clone, Copy)]
 pub struct Shutter {
     pub present: bool,
     pub active: u16,
@@ -94,7 +96,7 @@ pub struct Shutter {
 }
 
 // The half registers stand by address, low half first; the table of layout.rt says what each holds. Shutter 0 is MSHUT, shutter 1 STROBE.
-#[derive(Drop)]
+#[derive(Clone, Copy)]
 pub struct Tables {
     pub registers: [u16; 240],
     pub sequences: [Sequence; 10],
@@ -103,14 +105,14 @@ pub struct Tables {
     pub shutters: [Shutter; 2],
 }
 
-#[derive(Drop)]
+#[derive(Clone, Copy)]
 pub struct Profile {
     pub tables: Tables,
     pub field: Field,
 }
 
 // A pattern: the start levels of V1..V6 as bits, its length, three toggles of each output (V1 first to V6 third), two freeze and resume pairs.
-#[derive(Drop)]
+#[derive(Clone, Copy)]
 pub struct Pattern {
     pub levels: u16,
     pub length: u16,
@@ -122,13 +124,13 @@ pub struct Pattern {
 }
 
 // What a profile is judged by, and its words' version.
-#[derive(Drop)]
+#[derive(Clone, Copy)]
 pub struct Ruleset {
     pub version: u16,
 }
 
 // 0 or the number of a refusal, and its place; for 10 the output, 1 to 6, and its toggle that is out of order, else 0 and 0.
-#[derive(Drop)]
+#[derive(Clone, Copy)]
 pub struct Verdict {
     pub number: u16,
     pub place: u64,
@@ -136,13 +138,13 @@ pub struct Verdict {
     pub toggle: u16,
 }
 
-#[derive(Drop)]
+#[derive(Clone, Copy)]
 pub struct ReadAnswer {
     pub verdict: Verdict,
     pub profile: Profile,
 }
 
-#[derive(Drop)]
+#[derive(Clone, Copy)]
 pub struct Written {
     pub verdict: Verdict,
     pub length: usize,

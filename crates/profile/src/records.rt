@@ -94,7 +94,7 @@ fn data_at(body: &[u8], at: usize) -> u32
 // ---- one reader a kind
 
 // Whether a body's values are in range, and the profile: with its item where they are, else as it was.
-#[derive(Drop)]
+#[derive(Clone, Copy)]
 pub struct BodyAnswer {
     pub fits: bool,
     pub profile: Profile,
@@ -269,14 +269,14 @@ fn read_shutter(body: &[u8], profile: Profile) -> BodyAnswer
 // ---- a field's regions
 
 // A region that was read, and whether its numbers are in range.
-#[derive(Drop)]
+#[derive(Clone, Copy)]
 pub struct RegionAnswer {
     pub fits: bool,
     pub region: Region,
 }
 
 // The regions that were read and empty ones up to seven, and whether all that were read are in range.
-#[derive(Drop)]
+#[derive(Clone, Copy)]
 pub struct RegionsAnswer {
     pub fits: bool,
     pub regions: [Region; 7],
@@ -417,7 +417,7 @@ fn read_body(kind: u16, body: &[u8], profile: Profile) -> BodyAnswer
 // ---- one record
 
 // The record at an offset: its kind, where its body starts and ends; or the number of its refusal before its values are read.
-#[derive(Drop)]
+#[derive(Clone, Copy)]
 pub struct Found {
     pub number: u16,
     pub kind: u16,
@@ -426,7 +426,7 @@ pub struct Found {
 }
 
 // 0 or the number of the refusal, the next record's offset, and the profile with this record.
-#[derive(Drop)]
+#[derive(Clone, Copy)]
 pub struct RecordAnswer {
     pub number: u16,
     pub next: usize,
@@ -533,7 +533,7 @@ pub(crate) fn record_at(script: &[u8], at: usize, profile: Profile) -> RecordAns
 // ---- the reader
 
 // The lent script and a place in it, as one thing.
-#[derive(Drop)]
+#[derive(Clone, Copy)]
 struct Reader<'a> {
     script: &'a [u8],
     at: usize,

@@ -22,7 +22,7 @@ use crate::{Profile, ReadAnswer, Ruleset, Verdict, accept, empty, refuse};
 
 // What has arrived: how many bytes, as far as 16,385; the first refusal, 3, 4 or 5, and its place, else 0 and 0; how many bytes of the record that
 // is not whole yet are held, and these, in front of whatever stood there. 58 is the longest record.
-#[derive(Drop)]
+#[derive(Clone, Copy)]
 pub struct Arrival {
     pub length: usize,
     pub number: u16,
@@ -32,14 +32,14 @@ pub struct Arrival {
 }
 
 // The state: what has arrived, and the profile of the records that were taken.
-#[derive(Drop)]
+#[derive(Clone, Copy)]
 pub struct Upload {
     pub arrival: Arrival,
     pub profile: Profile,
 }
 
 // A record with as many bytes of a chunk as it waits for: how many it has now, these, and whether it is still cut.
-#[derive(Drop)]
+#[derive(Clone, Copy)]
 pub struct Filled {
     pub held: usize,
     pub bytes: [u8; 58],

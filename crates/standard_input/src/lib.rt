@@ -1,11 +1,13 @@
 // Standard input, read into a lent slice.
+#![tactic(auto)]
+
 ghost use Rattle.std.specs.Prelude.{length};
 ghost use Rattle.standard_input.specs.Input.{Inside};
 
 use libc::STDIN_FILENO;
 
 // What came: so many bytes, or a read that failed.
-#[derive(Drop)]
+#[derive(Clone, Copy)]
 pub enum Input {
     Bytes(usize),
     Failed,

@@ -1,5 +1,7 @@
 // A turn-taker for the camera: up to 8 shops join, ask for the camera, leave; each turn goes to the next that asks. The state goes in and comes back
 // by value, and any numbers can be handed in.
+#![tactic(auto)]
+
 ghost use Rattle.std.specs.Prelude.{◌≡◌, false, ◌+◌, ◌%◌, get_or, set};
 ghost use Rattle.turns.specs.Turns.{
   start_turns,
@@ -17,7 +19,7 @@ ghost use Rattle.turns.specs.Turns.{
 use profile::{Verdict, accept, refuse};
 
 // Which of the numbers 0 to 7 are joined, which of them ask, and the number that a turn looks at first.
-#[derive(Drop)]
+#[derive(Clone, Copy)]
 pub struct Turns {
     pub joined: [bool; 8],
     pub asking: [bool; 8],
@@ -25,33 +27,33 @@ pub struct Turns {
 }
 
 // Whose turn it is: a shop's, or nobody's, for nobody asks.
-#[derive(Drop)]
+#[derive(Clone, Copy)]
 pub enum Turn {
     Shop(u8),
     Idle,
 }
 
-#[derive(Drop)]
+#[derive(Clone, Copy)]
 pub struct Joined {
     pub verdict: Verdict,
     pub shop: u8,
     pub turns: Turns,
 }
 
-#[derive(Drop)]
+#[derive(Clone, Copy)]
 pub struct Changed {
     pub verdict: Verdict,
     pub turns: Turns,
 }
 
-#[derive(Drop)]
+#[derive(Clone, Copy)]
 pub struct Served {
     pub turn: Turn,
     pub turns: Turns,
 }
 
 // What a search finds: a shop's number, or none.
-#[derive(Drop)]
+#[derive(Clone, Copy)]
 pub enum Found {
     At(u8),
     Nowhere,
