@@ -13,7 +13,7 @@ use lib.Dec.{ltb, leb, eqb}
 use lib.ListN.{length, get_or, set, take, drop, length-set, length-append, length-take, length-drop, take-append-drop}
 use lib.Seq.{drop-nil, drop-drop, drop-cons, drop-set-lt, take-suc-set, length-take-le, take-append_seam, append_snoc}
 use Rattle.profile.specs.Values.{empty_profile, refused, read_answer}
-use Rattle.profile.specs.Script.{Stepped, most_bytes, stop, next, step, records, judged}
+use Rattle.profile.specs.Script.{Stepped, most_bytes, stop, next, step, judged}
 use Rattle.profile.specs.Upload.{stopped_at, upload, held_bytes, larger, arrived, is_refused, Reached, reached, waiting, refused_at, waits, read_on, counted, take_chunk, records_with, read_with, upload_answer}
 use Rattle.profile.specs.Reading.{verdict_of, reached_answer, cut_front, filled, filled_answer, filled_arrival}
 use Rattle.profile.specs.declared.Profile.{Profile}

@@ -2,7 +2,7 @@
 -- read the same bytes, once the header and the body are there.
 -- Assumes nothing.
 use mathlib.Core.Path.{◌≡◌, refl, sym, ap, ◌∙◌}
-use mathlib.Core.Bool.{Bool, true, false, not, false≢true}
+use mathlib.Core.Bool.{Bool, true, false, false≢true}
 use mathlib.Core.Logic.{◌⊎◌, inl, inr}
 use mathlib.Core.List.{List, [], ◌∷◌, ◌++◌}
 use Prim.Native.Nat.{ℕ, ◌+◌, ◌≤◌, ◌<◌}
@@ -12,7 +12,7 @@ use lib.Dec.{ltb, eqb}
 use lib.ListN.{length, take, drop, length-append, length-drop, get_or-append}
 use lib.Seq.{take-append-le, drop-append-le}
 use Rattle.profile.specs.Bytes.{number_at}
-use Rattle.profile.specs.Script.{has_form, known, allowed, body_of, Stepped, stop, next, step, judged}
+use Rattle.profile.specs.Script.{has_form, known, allowed, body_of, Stepped, stop, next, step}
 use Rattle.profile.specs.Reading.{found_front, cut_front}
 use Rattle.profile.specs.declared.Profile.{Profile}
 use Rattle.profile.proofs.Laws.{by_cases, cond-case, or_cases}

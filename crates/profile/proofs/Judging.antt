@@ -251,7 +251,8 @@ second_test t f = not (has_second f) || all (map (second_right t f (second_of t 
 
 second_is : (t : Tables) (f : Field) {a : Pattern} {r : Bool} → (f.second ≡ none → ⊥) → a ≡ second_of t f
     → r ≡ all (map (second_right t f a) (gate_lines f)) → r ≡ second_test t f
-second_is t f n ea er = er ∙ rw (ea, ne_eqb f.second none n)
+second_is t f n ea er =
+    er ∙ ap (λ (b : Pattern). all (map (second_right t f b) (gate_lines f))) ea ∙ rw (ne_eqb f.second none n) refl
 
 module _ (t : Tables) (f : Field) {v : Verdict} {q : Bool} (eq : q ≡ lines_right f) where
   pub line_out : not q ≡ true → v ≡ refused 14 0 → v ≡ first_broken (line_entries t f)

@@ -335,7 +335,9 @@ module _ (start end : ℕ → ℕ) (zeroth : start 0 ≡ 0) where
   sum-parts g (suc n) up next =
       let before = rw add-one at (sum-parts g n (λ i l. up i (omega arith)) (λ i l. next i (omega arith))) in
       let e : end n ≡ start (suc n) = rw add-one at (next n (omega arith)) in
-      rw (add-one, sum, zero-add (suc n), before, e) (sum_upto g (start (suc n)) (end (suc n)) (up (suc n) (omega arith)))
+      rw (add-one, sum, before, e)
+      (ap (λ (j : ℕ). sum g 0 (start (suc n)) + sum g (start j) (end j - start j)) (zero-add (suc n))
+      ∙ sum_upto g (start (suc n)) (end (suc n)) (up (suc n) (omega arith)))
 
 -- every number is c, but that of m
 pub sum_but_one : (g : ℕ → ℕ) (a n c m : ℕ) → a ≤ m → m < a + n

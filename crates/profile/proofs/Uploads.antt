@@ -15,7 +15,7 @@ use lib.Seq.{take_all, take-nil, take-append_seam}
 use Rattle.profile.specs.Bytes.{number_at}
 use Rattle.profile.specs.Values.{empty_profile, refused, read_answer}
 use Rattle.profile.specs.Script.{most_bytes, Stepped, stop, next, step, after_first, records, judged, read_script}
-use Rattle.profile.specs.Upload.{upload, held_bytes, larger, arrived, is_refused, Reached, reached, waiting, waits, stopped_at, read_on, counted, with_length, take_chunk, start_upload, records_with, read_with, upload_answer}
+use Rattle.profile.specs.Upload.{held_bytes, larger, arrived, is_refused, Reached, reached, waiting, waits, stopped_at, read_on, counted, with_length, take_chunk, start_upload, records_with, read_with, upload_answer}
 use Rattle.profile.specs.Reading.{cut_front}
 use Rattle.profile.specs.declared.Profile.{Profile}
 use Rattle.profile.specs.declared.ReadAnswer.{ReadAnswer}

@@ -1,8 +1,0 @@
--- The tests are those of the definition, joined in its order.
--- Assumes nothing.
-use Rattle.profile.proofs.Tested.{joined-all}
-use Rattle.profile.proofs.limits.region_in_range.Statement.{statement}
-use Rattle.profile.proofs.limits.region_in_range.Tie as tie
-
-pub region-in-range-spec : {M : Type 1} → statement M
-region-in-range-spec = tie.close (tie.spec (λ c. joined-all _ _))

@@ -1,0 +1,12 @@
+-- After i turns the tests of the first i are joined.
+-- Assumes nothing.
+use Prim.Native.Nat.{◌-◌}
+use Rattle.profile.specs.Ranges.{half_tests}
+use Rattle.profile.proofs.Tested.{Joined}
+use Rattle.profile.proofs.ranges.halves_in.Given as goal
+
+abbrev pub invariant-loop-i : goal.invariant-loop-i
+invariant-loop-i l = Joined 240 (half_tests l.registers) l.right l.i
+
+abbrev pub decreases-loop-i : goal.decreases-loop-i
+decreases-loop-i l = 240 - l.i

@@ -1,0 +1,10 @@
+-- The number and the sequence are those of the body, so the test is that of the definition; where it holds the sequence is stored.
+-- Assumes nothing.
+use Rattle.profile.proofs.Readers.{reading}
+use Rattle.profile.proofs.records.read_sequence.Goals as goal
+
+pub returns-then-not-fits : goal.returns-then-not-fits
+returns-then-not-fits c = search reading
+
+pub returns : goal.returns
+returns c = search reading

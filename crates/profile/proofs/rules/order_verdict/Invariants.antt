@@ -1,0 +1,13 @@
+-- The regions passed are in order; the first that is not answers for all.
+-- Assumes nothing.
+use Prim.Native.Nat.{◌-◌}
+use Rattle.profile.specs.Geometry.{region_count}
+use Rattle.profile.specs.Rules.{order_entries}
+use Rattle.profile.proofs.Judging.{Fine}
+use Rattle.profile.proofs.rules.order_verdict.Given as goal
+
+abbrev pub invariant-loop-i : goal.invariant-loop-i
+invariant-loop-i l = Fine l.n (region_count l.field) (order_entries l.field) l.i
+
+abbrev pub decreases-loop-i : goal.decreases-loop-i
+decreases-loop-i l = l.n - l.i

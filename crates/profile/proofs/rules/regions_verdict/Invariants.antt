@@ -1,0 +1,13 @@
+-- The regions passed obey 8 to 13; the first that does not answers for all.
+-- Assumes nothing.
+use Prim.Native.Nat.{◌-◌}
+use Rattle.profile.specs.Geometry.{region_count}
+use Rattle.profile.specs.Rules.{region_entries}
+use Rattle.profile.proofs.Judging.{Fine}
+use Rattle.profile.proofs.rules.regions_verdict.Given as goal
+
+abbrev pub invariant-loop-i : goal.invariant-loop-i
+invariant-loop-i l = Fine l.n (region_count l.field) (region_entries l.tables l.field) l.i
+
+abbrev pub decreases-loop-i : goal.decreases-loop-i
+decreases-loop-i l = l.n - l.i
