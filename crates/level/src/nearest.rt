@@ -30,7 +30,7 @@ fn no_edge(verdict: Verdict) -> Edge
 
 // The first pixel of a line, from p on, whose word is not w; the line's length where there is none.
 fn change_from(line: Line, p: u16, w: u16) -> u16
-    ensures* { λ q. ⌜ q ≡ first_from (λ q. not (eqb (word_of line q) w)) (line.length - p) p ⌝ }
+    ensures { result ≡ first_from (λ q. not (eqb (word_of line q) w)) (line.length - p) p }
 {
     let ready = prepare(line);
     let mut q = p;
