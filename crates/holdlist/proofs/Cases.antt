@@ -245,23 +245,23 @@ table = alike 1 ++ alike 2 ++ flipping
 
 pub cases : map (λ (c : Case). ask c.version c.script c.question) table ≡ map (λ (c : Case). c.answer) table
 unfolding ask alike flipping table flat_map
-    Lists.all Lists.distinct Lists.chunks Lists.sum Lists.lastStart
-    Values.emptyField Values.emptyTables
-    Layout.halfPattern Layout.halfPart
-    Patterns.withPart Patterns.patternUpTo Patterns.patternOf Patterns.toggleFault Patterns.highestUsed
-    Geometry.endLine Geometry.regionOf Geometry.lengthIn Geometry.lineLength Geometry.regionPixels Geometry.pixelsBefore Geometry.pixelCount
-    Geometry.hasPixel
-    Ranges.sequenceIn Ranges.regionIn Ranges.headIn Ranges.gateIn Ranges.subckIn Ranges.shutterIn Ranges.in_range
-    Rules.firstBroken Rules.startsRight Rules.rowRight Rules.pairsRight Rules.maskRight Rules.countsRight Rules.endsRight Rules.secondRight
-    Rules.gateRight Rules.subckRight Rules.shutterRight Rules.entries_at Rules.linesRight Rules.lineEntries Rules.rulesOf Rules.entriesOf Rules.judge Rules.checkProfile
-    Script.registerFits Script.sequenceFits Script.hasForm Script.fieldWith Script.fitsWith Script.gateFits Script.subckFits Script.shutterFits Script.allowed
-    Script.fits Script.withRecord Script.step Script.records Script.readScript
-    Writing.writeScript Writing.writeAnswer
-    Line.lineWith Line.noLine Line.line_of
-    Word.vWord Word.gateWord Word.word_of
-    Fieldwords.lineWords Fieldwords.fieldWords
-    Place.levelAnswer
+    Lists.all Lists.distinct Lists.chunks Lists.sum Lists.last_start
+    Values.empty_field Values.empty_tables
+    Layout.half_pattern Layout.half_part
+    Patterns.with_part Patterns.pattern_up_to Patterns.pattern_of Patterns.toggle_fault Patterns.highest_used
+    Geometry.end_line Geometry.region_of Geometry.length_in Geometry.line_length Geometry.region_pixels Geometry.pixels_before Geometry.pixel_count
+    Geometry.has_pixel
+    Ranges.sequence_in Ranges.region_in Ranges.head_in Ranges.gate_in Ranges.subck_in Ranges.shutter_in Ranges.in_range
+    Rules.first_broken Rules.starts_right Rules.row_right Rules.pairs_right Rules.mask_right Rules.counts_right Rules.ends_right Rules.second_right
+    Rules.gate_right Rules.subck_right Rules.shutter_right Rules.entries_at Rules.lines_right Rules.line_entries Rules.rules_of Rules.entries_of Rules.judge Rules.check_profile
+    Script.register_fits Script.sequence_fits Script.has_form Script.field_with Script.fits_with Script.gate_fits Script.subck_fits Script.shutter_fits Script.allowed
+    Script.fits Script.with_record Script.step Script.records Script.read_script
+    Writing.write_script Writing.write_answer
+    Line.line_with Line.no_line Line.line_of
+    Word.v_word Word.gate_word Word.word_of
+    Fieldwords.line_words Fieldwords.field_words
+    Place.level_answer
     Runs.flush Runs.pushed Runs.shut Runs.opened Runs.closed Runs.runs
-    Compile.holdVerdict Compile.holdAnswer Compile.holdCounts Compile.holdWords Compile.compileAnswer Compile.compileCounts Compile.compileWords
-    Text.leadingIn Text.leading Text.decimal Text.headLine Text.stepLine Text.listing Text.printedAnswer Text.printedOf Text.printed
+    Compile.hold_verdict Compile.hold_answer Compile.hold_counts Compile.hold_words Compile.compile_answer Compile.compile_counts Compile.compile_words
+    Text.leading_in Text.leading Text.decimal Text.head_line Text.step_line Text.listing Text.printed_answer Text.printed_of Text.printed
 cases = refl

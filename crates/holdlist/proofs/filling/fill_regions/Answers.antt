@@ -1,0 +1,28 @@
+-- What the check leaves open, by the laws cited.
+-- Assumes nothing.
+use Prim.Native.Nat.{◌+◌, ◌-◌, ◌≤◌, ◌<◌, ◌^◌}
+use mathlib.Core.Path.{◌≡◌}
+use Rattle.profile.specs.Geometry.{region_count}
+use Rattle.holdlist.specs.Fills.{region_words}
+use Rattle.holdlist.proofs.Fills.{Turns, turns_start, turn-counted, turn-steps, turns-end, turning, fills_as}
+use Rattle.holdlist.proofs.FieldLoops.{regions-whole}
+use borrow.Author.Rules.{rules}
+use native.Mathlib.Omega.{arith}
+use Rattle.holdlist.proofs.filling.fill_regions.Goals as goal
+
+pub loop-i-init : goal.loop-i-init
+loop-i-init c = let r = c.region_count-n.ensures in
+    (r.value, r.upper_bound, turns_start _ _ _ _ _ (rw (r.value, regions-whole _ _ _ c.requires.fillable) c.requires.field_bound) (search rules) (search rules))
+
+pub fill_region-r-requires : goal.fill_region-r-requires
+fill_region-r-requires c = record { fillable = c.requires.fillable; i_bound = omega arith; i_bound_2 = turn-counted c.loop-i.invariant.2 c.loop-i-test.true }
+
+pub overflow_add-used : goal.overflow_add-used
+overflow_add-used c = search turn-steps
+
+pub loop-i-preserved : goal.loop-i-preserved
+loop-i-preserved c = search turning
+
+pub returns : goal.returns
+returns c = let v = c.loop-i.invariant in
+    fills_as (rw v.0 (regions-whole _ _ _ c.requires.fillable)) (turns-end v.2 c.loop-i-test.false)

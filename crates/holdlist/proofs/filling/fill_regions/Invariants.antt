@@ -1,0 +1,17 @@
+-- The loop has pushed the regions passed (`Turns`); all of them are the field's words.
+-- Assumes nothing.
+use Prim.Native.Nat.{◌+◌, ◌-◌, ◌≤◌, ◌<◌, ◌^◌}
+use mathlib.Core.Path.{◌≡◌}
+use Rattle.profile.specs.Geometry.{region_count}
+use Rattle.holdlist.specs.Fills.{region_words}
+use Rattle.holdlist.proofs.Fills.{Turns, turns_start, turn-counted, turn-steps, turns-end, turning, fills_as}
+use Rattle.holdlist.proofs.FieldLoops.{regions-whole}
+use borrow.Author.Rules.{rules}
+use native.Mathlib.Omega.{arith}
+use Rattle.holdlist.proofs.filling.fill_regions.Given as goal
+
+abbrev pub invariant-loop-i : goal.invariant-loop-i
+invariant-loop-i l = (l.n ≡ region_count l.field) × (l.n ≤ 7) × Turns (region_words l.version l.tables l.field) l.n l.initial.held l.initial.counts l.initial.words l.i l.used l.held l.counts l.words
+
+abbrev pub decreases-loop-i : goal.decreases-loop-i
+decreases-loop-i l = l.n - l.i

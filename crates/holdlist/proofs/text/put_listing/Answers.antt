@@ -1,0 +1,20 @@
+-- What the check leaves open, by the laws cited.
+-- Assumes nothing.
+use Prim.Native.Nat.{◌-◌, min}
+use mathlib.Core.Path.{◌≡◌}
+use Rattle.holdlist.specs.Compile.{room_of}
+use Rattle.holdlist.specs.Text.{step_line_at, listing}
+use Rattle.holdlist.proofs.Puts.{Chunked, putting}
+use borrow.Author.Rules.{rules}
+use native.Mathlib.Omega.{arith}
+use Rattle.holdlist.proofs.text.put_listing.Goals as goal
+
+pub loop-i-init : goal.loop-i-init
+loop-i-init c = (omega arith, search putting)
+
+pub loop-i-preserved : goal.loop-i-preserved
+loop-i-preserved c = search putting
+
+pub returns : goal.returns
+unfolding listing
+returns c = rw (← c.loop-i.invariant.0) (search putting)

@@ -1,0 +1,15 @@
+-- What the check leaves open, by the laws cited.
+-- Assumes nothing.
+use Rattle.holdlist.proofs.Spelling.{Spells, spells_first, spells_some, spells_more, spells_last}
+use borrow.Author.Rules.{rules}
+use native.Mathlib.Omega.{arith}
+use Rattle.holdlist.proofs.text.spell.Goals as goal
+
+pub loop-rest-init : goal.loop-rest-init
+loop-rest-init c = rw c.digit.ensures (spells_first c.args.n c.args.digits.now (search rules) c.requires)
+
+pub loop-rest-preserved : goal.loop-rest-preserved
+loop-rest-preserved c = rw c.digit-in-loop-rest.ensures (spells_more c.loop-rest.invariant c.loop-rest-test.true)
+
+pub returns : goal.returns
+returns c = record { upper_bound = c.loop-rest.invariant.inside; digits_after = spells_last c.loop-rest.invariant c.loop-rest-test.false }
