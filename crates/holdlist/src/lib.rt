@@ -1,4 +1,6 @@
 // Hold lists: u32 counts beside u16 words. A field is compiled into the shortest list that plays it.
+#![tactic(auto)]
+
 use profile::Verdict;
 
 mod answering;

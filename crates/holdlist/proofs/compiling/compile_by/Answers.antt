@@ -8,14 +8,13 @@ use Rattle.level.proofs.Places.{refuses, passes}
 use Rattle.holdlist.specs.Fills.{Fillable}
 use Rattle.holdlist.proofs.FieldLoops.{accepted_fillable}
 use Rattle.holdlist.proofs.Passes.{passes_refused, passes-short, passes-fit}
-use borrow.Author.Rules.{rules}
 use Rattle.holdlist.proofs.compiling.compile_by.Goals as goal
 
 pub returns-then-verdict-ne0 : goal.returns-then-verdict-ne0
 returns-then-verdict-ne0 c = rw c.check_in-verdict.ensures (search (passes_refused, refuses))
 
 pub fill_field-need-requires : goal.fill_field-need-requires
-fill_field-need-requires c = 
+fill_field-need-requires c =
     let good : (check_profile c.args.rules c.args.profile ≡ accepted) = check_number _ _ (rw c.check_in-verdict.ensures at c.if-verdict-ne0.false) in
     let fillable : (Fillable c.args.profile.tables c.args.profile.field) = accepted_fillable _ _ good in
     search fillable
@@ -24,7 +23,7 @@ pub returns-then-least-need : goal.returns-then-least-need
 returns-then-least-need c = rw c.refuse.ensures (search (passes-short, passes))
 
 pub fill_field-steps-requires : goal.fill_field-steps-requires
-fill_field-steps-requires c = 
+fill_field-steps-requires c =
     let good : (check_profile c.args.rules c.args.profile ≡ accepted) = check_number _ _ (rw c.check_in-verdict.ensures at c.if-verdict-ne0.false) in
     let fillable : (Fillable c.args.profile.tables c.args.profile.field) = accepted_fillable _ _ good in
     search fillable

@@ -1,22 +1,22 @@
 -- What the check leaves open, by the laws cited.
 -- Assumes nothing.
-use Prim.Native.Nat.{◌-◌, ◌≤◌, ◌<◌}
+use Prim.Native.Nat.{◌-◌}
 use native.Mathlib.Omega.{arith}
 use lib.ListN.{get_or}
 use borrow.Author.Rules.{rules}
 use Rattle.level.proofs.Stopping.{along_none, words_stop}
-use Rattle.holdlist.proofs.LineLoops.{Pushed, pushed_start, pushed-counted, pushed-steps, pushed_more, pushed-all, stretches_lent, Reached, next-below, next_stop, next_word, next_later, next-within, next-reached}
+use Rattle.holdlist.proofs.LineLoops.{pushed_start, pushed-counted, pushed-steps, pushed_more, stretches_lent, next_stop, next_word, next_later, next-within, next-reached}
 use Rattle.holdlist.proofs.filling.fill_edges.Goals as goal
 
 pub loop-p-init : goal.loop-p-init
 loop-p-init c = let e = c.stretches.ensures in (
-      pushed_start c.args.line _ _ _ c.requires.length_bound_2 (search rules) (search rules),
-      record {
-        lent = stretches_lent c.args.line c.args.ends.now c.args.words.now (omega (arith, c.requires.length_bound)) (omega (arith, c.requires.length_bound)) e.value e.ends_after e.words_after;
-        along = along_none c.args.line;
-      },
-      c.requires.length_bound,
-    )
+  pushed_start c.args.line _ _ _ c.requires.length_bound_2 (search rules) (search rules),
+  record {
+    lent = stretches_lent c.args.line c.args.ends.now c.args.shown.now (omega (arith, c.requires.length_bound)) (omega (arith, c.requires.length_bound)) e.value e.ends_after e.words_after;
+    along = along_none c.args.line;
+  },
+  c.requires.length_bound,
+)
 
 pub overflow_sub-times : goal.overflow_sub-times
 overflow_sub-times c = let l = c.loop-p in omega (arith, next_later l.invariant.1 c.loop-p-test.true)

@@ -2,7 +2,6 @@
 -- Assumes nothing.
 use Rattle.holdlist.proofs.Fills.{writes_runs, runs_few}
 use Rattle.holdlist.proofs.FieldLoops.{few-pixels}
-use borrow.Author.Rules.{rules}
 use native.Mathlib.Omega.{arith}
 use Rattle.holdlist.proofs.filling.fill_field.Goals as goal
 

@@ -1,21 +1,17 @@
 -- What the check leaves open, by the laws cited.
 -- Assumes nothing.
-use Prim.Native.Nat.{ℕ, ◌-◌, ◌≤◌, ◌<◌}
 use native.Mathlib.Omega.{arith}
-use mathlib.Core.Path.{◌≡◌}
-use lib.ListN.{get_or}
 use borrow.Author.Rules.{rules}
-use Rattle.level.specs.Word.{word_of}
 use Rattle.level.proofs.Stopping.{words_one}
-use Rattle.holdlist.proofs.LineLoops.{Pushed, pushed_start, pushed-counted, pushed-steps, pushed_more, pushed-all, words_lent}
+use Rattle.holdlist.proofs.LineLoops.{pushed_start, pushed-counted, pushed-steps, pushed_more, words_lent}
 use Rattle.holdlist.proofs.filling.fill_pixels.Goals as goal
 
 pub loop-p-init : goal.loop-p-init
 loop-p-init c = (
-      pushed_start c.args.line _ _ _ c.requires.length_bound_2 (search rules) (search rules),
-      words_lent c.args.line c.args.shown.now _ (omega (arith, c.requires.length_bound)) c.fill.ensures,
-      c.requires.length_bound,
-    )
+  pushed_start c.args.line _ _ _ c.requires.length_bound_2 (search rules) (search rules),
+  words_lent c.args.line c.args.shown.now _ (omega (arith, c.requires.length_bound)) c.fill.ensures,
+  c.requires.length_bound,
+)
 
 pub hold-r-requires : goal.hold-r-requires
 hold-r-requires c = pushed-counted c.loop-p.invariant.0 1 (omega (arith, c.loop-p-test.true))

@@ -1,13 +1,10 @@
 -- The words up to a pixel are pushed, and the word there for one pixel: the buffer has it.
 -- Assumes nothing.
 use Prim.Native.Nat.{ℕ, ◌-◌, ◌≤◌, ◌<◌}
-use native.Mathlib.Omega.{arith}
 use mathlib.Core.Path.{◌≡◌}
 use lib.ListN.{get_or}
-use borrow.Author.Rules.{rules}
 use Rattle.level.specs.Word.{word_of}
-use Rattle.level.proofs.Stopping.{words_one}
-use Rattle.holdlist.proofs.LineLoops.{Pushed, pushed_start, pushed-counted, pushed-steps, pushed_more, pushed-all, words_lent}
+use Rattle.holdlist.proofs.LineLoops.{Pushed}
 use Rattle.holdlist.proofs.filling.fill_pixels.Given as goal
 
 abbrev pub invariant-loop-p : goal.invariant-loop-p

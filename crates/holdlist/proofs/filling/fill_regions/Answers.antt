@@ -1,10 +1,6 @@
 -- What the check leaves open, by the laws cited.
 -- Assumes nothing.
-use Prim.Native.Nat.{◌+◌, ◌-◌, ◌≤◌, ◌<◌, ◌^◌}
-use mathlib.Core.Path.{◌≡◌}
-use Rattle.profile.specs.Geometry.{region_count}
-use Rattle.holdlist.specs.Fills.{region_words}
-use Rattle.holdlist.proofs.Fills.{Turns, turns_start, turn-counted, turn-steps, turns-end, turning, fills_as}
+use Rattle.holdlist.proofs.Fills.{turns_start, turn-counted, turn-steps, turns-end, turning, fills_as}
 use Rattle.holdlist.proofs.FieldLoops.{regions-whole}
 use borrow.Author.Rules.{rules}
 use native.Mathlib.Omega.{arith}

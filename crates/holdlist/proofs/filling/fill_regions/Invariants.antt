@@ -1,13 +1,10 @@
 -- The loop has pushed the regions passed (`Turns`); all of them are the field's words.
 -- Assumes nothing.
-use Prim.Native.Nat.{◌+◌, ◌-◌, ◌≤◌, ◌<◌, ◌^◌}
+use Prim.Native.Nat.{◌-◌, ◌≤◌}
 use mathlib.Core.Path.{◌≡◌}
 use Rattle.profile.specs.Geometry.{region_count}
 use Rattle.holdlist.specs.Fills.{region_words}
-use Rattle.holdlist.proofs.Fills.{Turns, turns_start, turn-counted, turn-steps, turns-end, turning, fills_as}
-use Rattle.holdlist.proofs.FieldLoops.{regions-whole}
-use borrow.Author.Rules.{rules}
-use native.Mathlib.Omega.{arith}
+use Rattle.holdlist.proofs.Fills.{Turns}
 use Rattle.holdlist.proofs.filling.fill_regions.Given as goal
 
 abbrev pub invariant-loop-i : goal.invariant-loop-i

@@ -1,10 +1,7 @@
 -- What the check leaves open, by the laws cited.
 -- Assumes nothing.
-use Prim.Native.Nat.{◌-◌}
-use native.Mathlib.Omega.{arith}
 use mathlib.Core.Path.{◌∙◌}
-use borrow.Author.Rules.{rules}
-use Rattle.holdlist.proofs.Player.{Playing, playing_start, playing_here, playing_on, playing_end, play_no_counts, play_no_words}
+use Rattle.holdlist.proofs.Player.{playing_start, playing_here, playing_on, playing_end, play_no_counts, play_no_words}
 use Rattle.holdlist.proofs.playing.play.Goals as goal
 
 pub returns-then-counts-used : goal.returns-then-counts-used

@@ -1,10 +1,7 @@
 -- `playing::play` meets its contract. The loop's invariant: to play the position is to play what is left of it from step i on (`Playing`).
 -- Assumes nothing.
 use Prim.Native.Nat.{◌-◌}
-use native.Mathlib.Omega.{arith}
-use mathlib.Core.Path.{◌∙◌}
-use borrow.Author.Rules.{rules}
-use Rattle.holdlist.proofs.Player.{Playing, playing_start, playing_here, playing_on, playing_end, play_no_counts, play_no_words}
+use Rattle.holdlist.proofs.Player.{Playing}
 use Rattle.holdlist.proofs.playing.play.Given as goal
 
 abbrev pub invariant-loop-i : goal.invariant-loop-i

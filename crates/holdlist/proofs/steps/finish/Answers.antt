@@ -1,6 +1,5 @@
 -- `steps::finish` meets its contract.
 -- Assumes nothing.
-use borrow.Author.Rules.{rules}
 use Rattle.holdlist.proofs.Fills.{flush-none, flush-step}
 use Rattle.holdlist.proofs.steps.finish.Goals as goal
 

@@ -1,6 +1,5 @@
 -- `steps::hold` meets its contract.
 -- Assumes nothing.
-use borrow.Author.Rules.{rules}
 use Rattle.holdlist.proofs.Fills.{hold_joins, hold_none, hold_starts}
 use Rattle.holdlist.proofs.steps.hold.Goals as goal
 

@@ -1,6 +1,5 @@
 -- `steps::put_count` meets its contract.
 -- Assumes nothing.
-use borrow.Author.Rules.{rules}
 use Rattle.holdlist.proofs.Fills.{over_fit_one, over_fit-full}
 use Rattle.holdlist.proofs.steps.put_count.Goals as goal
 

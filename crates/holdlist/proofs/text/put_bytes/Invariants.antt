@@ -3,9 +3,7 @@
 use Prim.Native.Nat.{◌-◌}
 use mathlib.Core.List.{[], ◌∷◌}
 use lib.ListN.{length, get_or}
-use Rattle.profile.proofs.Stores.{all_bytes}
-use Rattle.holdlist.proofs.Puts.{Chunked, putting, puts_as}
-use borrow.Author.Rules.{rules}
+use Rattle.holdlist.proofs.Puts.{Chunked}
 use Rattle.holdlist.proofs.text.put_bytes.Given as goal
 
 abbrev pub invariant-loop-i : goal.invariant-loop-i

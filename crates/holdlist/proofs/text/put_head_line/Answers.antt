@@ -2,7 +2,6 @@
 -- Assumes nothing.
 use Rattle.holdlist.specs.Text.{head_line}
 use Rattle.holdlist.proofs.Puts.{puts_more}
-use borrow.Author.Rules.{rules}
 use Rattle.holdlist.proofs.text.put_head_line.Goals as goal
 
 pub returns : goal.returns

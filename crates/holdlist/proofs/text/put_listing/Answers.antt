@@ -1,11 +1,7 @@
 -- What the check leaves open, by the laws cited.
 -- Assumes nothing.
-use Prim.Native.Nat.{◌-◌, min}
-use mathlib.Core.Path.{◌≡◌}
-use Rattle.holdlist.specs.Compile.{room_of}
-use Rattle.holdlist.specs.Text.{step_line_at, listing}
-use Rattle.holdlist.proofs.Puts.{Chunked, putting}
-use borrow.Author.Rules.{rules}
+use Rattle.holdlist.specs.Text.{listing}
+use Rattle.holdlist.proofs.Puts.{putting}
 use native.Mathlib.Omega.{arith}
 use Rattle.holdlist.proofs.text.put_listing.Goals as goal
 

@@ -3,10 +3,8 @@
 use Prim.Native.Nat.{◌-◌, min}
 use mathlib.Core.Path.{◌≡◌}
 use Rattle.holdlist.specs.Compile.{room_of}
-use Rattle.holdlist.specs.Text.{step_line_at, listing}
-use Rattle.holdlist.proofs.Puts.{Chunked, putting}
-use borrow.Author.Rules.{rules}
-use native.Mathlib.Omega.{arith}
+use Rattle.holdlist.specs.Text.{step_line_at}
+use Rattle.holdlist.proofs.Puts.{Chunked}
 use Rattle.holdlist.proofs.text.put_listing.Given as goal
 
 abbrev pub invariant-loop-i : goal.invariant-loop-i

@@ -10,7 +10,7 @@ use borrow.Author.Rules.{rules}
 use Rattle.holdlist.proofs.text.put_printed.Goals as goal
 
 pub returns-then-verdict-eq0 : goal.returns-then-verdict-eq0
-returns-then-verdict-eq0 c = 
+returns-then-verdict-eq0 c =
     let short : (let a = c.args in
     length (printed_answer a.answer a.counts.now a.words.now) ≤ 55 + 16 * room_of a.counts.now a.words.now) = let a = c.args in
     answer_length a.answer a.counts.now a.words.now (search rules) (search rules) (search rules)
@@ -18,7 +18,7 @@ returns-then-verdict-eq0 c =
     search (answer_listing, short)
 
 pub returns-else-verdict-eq0 : goal.returns-else-verdict-eq0
-returns-else-verdict-eq0 c = 
+returns-else-verdict-eq0 c =
     let short : (let a = c.args in
     length (printed_answer a.answer a.counts.now a.words.now) ≤ 55 + 16 * room_of a.counts.now a.words.now) = let a = c.args in
     answer_length a.answer a.counts.now a.words.now (search rules) (search rules) (search rules)

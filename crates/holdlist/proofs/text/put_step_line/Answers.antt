@@ -2,7 +2,6 @@
 -- Assumes nothing.
 use Rattle.holdlist.specs.Text.{step_line}
 use Rattle.holdlist.proofs.Puts.{puts_more}
-use borrow.Author.Rules.{rules}
 use Rattle.holdlist.proofs.text.put_step_line.Goals as goal
 
 pub returns : goal.returns

@@ -3,7 +3,6 @@
 use borrow.Author.Tests.{eq-eqb, ne_eqb}
 use Rattle.holdlist.specs.Text.{toggle_text}
 use Rattle.holdlist.proofs.Puts.{puts_none, puts_more}
-use borrow.Author.Rules.{rules}
 use Rattle.holdlist.proofs.text.put_toggle.Goals as goal
 
 pub returns-then-verdict-ne10 : goal.returns-then-verdict-ne10

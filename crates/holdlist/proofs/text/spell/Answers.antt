@@ -1,8 +1,7 @@
 -- What the check leaves open, by the laws cited.
 -- Assumes nothing.
-use Rattle.holdlist.proofs.Spelling.{Spells, spells_first, spells_some, spells_more, spells_last}
+use Rattle.holdlist.proofs.Spelling.{spells_first, spells_more, spells_last}
 use borrow.Author.Rules.{rules}
-use native.Mathlib.Omega.{arith}
 use Rattle.holdlist.proofs.text.spell.Goals as goal
 
 pub loop-rest-init : goal.loop-rest-init

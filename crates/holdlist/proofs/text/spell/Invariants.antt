@@ -1,8 +1,6 @@
 -- `text::spell` meets its contract. The loop's invariant: the digits from `from` on are spelt, `rest` is left.
 -- Assumes nothing.
-use Rattle.holdlist.proofs.Spelling.{Spells, spells_first, spells_some, spells_more, spells_last}
-use borrow.Author.Rules.{rules}
-use native.Mathlib.Omega.{arith}
+use Rattle.holdlist.proofs.Spelling.{Spells}
 use Rattle.holdlist.proofs.text.spell.Given as goal
 
 abbrev pub invariant-loop-rest : goal.invariant-loop-rest
