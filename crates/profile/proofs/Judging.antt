@@ -168,14 +168,10 @@ module _ (i : ℕ) (uses : ℕ → Bool) (row : List ℕ) (k : ℕ) where
   -- an output's verdict by its fault
   row-verdict : first_broken (row_entries i uses row k) ≡ cond (row_right uses row) accepted (refused_toggle i (k + 1) (toggle_fault uses row))
   unfolding first_broken row_right toggle_fault
-  row-verdict = two-tests (in_order uses row 2) (in_order uses row 3)
-    where
-      two-tests : (b c : Bool)
-          → cond b (cond c accepted (refused_toggle i (k + 1) 3)) (refused_toggle i (k + 1) 2)
-          ≡ cond (eqb (cond b (cond c 0 3) 2) 0) accepted (refused_toggle i (k + 1) (cond b (cond c 0 3) 2))
-      two-tests true true = refl
-      two-tests true false = refl
-      two-tests false c = refl
+  row-verdict =
+      by_cases (in_order uses row 2)
+      (λ b. by_cases (in_order uses row 3) (λ c. rw (b, c)) (λ c. rw (b, c)))
+      (λ b. rw b)
 
   module _ {fault : ℕ} (e : fault ≡ toggle_fault uses row) where
     pub row-broken : (fault ≡ 0 → ⊥) → {v : Verdict} → v ≡ refused_toggle i (k + 1) fault → v ≡ first_broken (row_entries i uses row k)
