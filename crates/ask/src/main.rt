@@ -8,7 +8,6 @@ mod question;
 ghost use Rattle.std.specs.Prelude.{◌≡◌, length};
 
 use crate::answers::put_answer;
-use libc::{STDERR_FILENO, STDOUT_FILENO};
 use standard_input::Input;
 
 // A question of 123 bytes, its end, and one byte more than the longest script, so that a longer one is seen to be longer.
@@ -26,24 +25,24 @@ fn text_room() -> [u8; 1400]
 }
 
 // Every question that there is has an answer.
-fn print_answer(input: &[u8]) {
+fn print_answer(rt: &(impl Print + Eprint), input: &[u8]) {
     let mut text = text_room();
     let n = put_answer(input, &mut text);
     if n == 0 {
-        io::write_all(STDERR_FILENO, b"ask: no such question\n");
+        let _ = rt.eprintln("ask: no such question");
         return;
     }
-    if !io::write_all(STDOUT_FILENO, &text[..n]) {
-        io::write_all(STDERR_FILENO, b"ask: cannot write standard output\n");
+    if rt.write_all(&text[..n]).is_err() {
+        let _ = rt.eprintln("ask: cannot write standard output");
     }
 }
 
-fn main() {
+fn main(rt: HostRuntime) {
     let mut input = input_room();
-    match standard_input::read_all(&mut input) {
-        Input::Bytes(n) => print_answer(&input[..n]),
+    match standard_input::read_all(&rt, &mut input) {
+        Input::Bytes(n) => print_answer(&rt, &input[..n]),
         Input::Failed => {
-            io::write_all(STDERR_FILENO, b"ask: cannot read standard input\n");
+            let _ = rt.eprintln("ask: cannot read standard input");
         }
     }
 }

@@ -2,7 +2,6 @@
 ghost use Rattle.std.specs.Prelude.{◌≡◌, ◌≤◌, length};
 
 use holdlist::Compiled;
-use libc::STDOUT_FILENO;
 use profile::Profile;
 
 // Room for 4,096 steps, and for their text.
@@ -71,8 +70,8 @@ fn put_answer(edges: bool, script: &[u8], out: &mut [u8]) -> usize
     put_list(edges, profile, out)
 }
 
-pub(crate) fn print_list(edges: bool, script: &[u8]) {
+pub(crate) fn print_list(rt: &impl Print, edges: bool, script: &[u8]) {
     let mut text = text_room();
     let n = put_answer(edges, script, &mut text);
-    io::write_all(STDOUT_FILENO, &text[..n]);
+    let _ = rt.write_all(&text[..n]);
 }

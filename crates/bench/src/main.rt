@@ -11,10 +11,11 @@ mod lists;
 mod places;
 mod uploads;
 
-ghost use Rattle.std.specs.Prelude.{◌+◌, ◌≤◌, ◌<◌};
+ghost use Rattle.std.specs.Prelude.{◌+◌, ◌≤◌, ◌<◌, length};
 
 use level::{Line, Mask, Pulse, Run, Span};
 use profile::pattern_of;
+use std::io::Read;
 
 // The place of the number to which a byte belongs: the next one after a byte that is below the digits.
 fn place_after(k: usize, c: u8) -> usize
@@ -161,32 +162,49 @@ fn total(n: [u16; 240]) -> u64 {
     sum
 }
 
-fn print_sum(sum: u64) {
-    io::print_decimal(libc::STDOUT_FILENO, sum);
-    io::write_all(libc::STDOUT_FILENO, b"\n");
+fn print_sum(rt: &impl Print, sum: u64) {
+    let _ = rt.println(sum);
 }
 
 // What the first byte asks for.
-fn answer(text: &[u8]) {
+fn answer(rt: &impl Print, text: &[u8]) {
     if text.len() == 0 {
         return;
     }
     match text[0] {
-        b'P' => lists::print_list(false, &text[1..]),
-        b'E' => lists::print_list(true, &text[1..]),
-        b'N' => print_sum(places::places_sum(&text[1..])),
-        b'L' => print_sum(places::levels_sum(&text[1..])),
-        b'C' => print_sum(places::checks_sum(&text[1..])),
-        b'R' => print_sum(uploads::reads_sum(&text[1..])),
-        b'U' => print_sum(uploads::uploads_sum(&text[1..], 16384)),
-        b'S' => print_sum(uploads::uploads_sum(&text[1..], 64)),
-        b'B' => print_sum(uploads::uploads_sum(&text[1..], 1)),
-        _ => print_sum(total(numbers(text))),
+        b'P' => lists::print_list(rt, false, &text[1..]),
+        b'E' => lists::print_list(rt, true, &text[1..]),
+        b'N' => print_sum(rt, places::places_sum(&text[1..])),
+        b'L' => print_sum(rt, places::levels_sum(&text[1..])),
+        b'C' => print_sum(rt, places::checks_sum(&text[1..])),
+        b'R' => print_sum(rt, uploads::reads_sum(&text[1..])),
+        b'U' => print_sum(rt, uploads::uploads_sum(&text[1..], 16384)),
+        b'S' => print_sum(rt, uploads::uploads_sum(&text[1..], 64)),
+        b'B' => print_sum(rt, uploads::uploads_sum(&text[1..], 1)),
+        _ => print_sum(rt, total(numbers(text))),
     }
 }
 
-fn main() {
+// Reads until the input ends, a read fails or the room is full.
+fn read_full(rt: &impl Input, room: &mut [u8]) -> usize
+    ensures { result ≤ length room.old }
+{
+    let mut reader = rt.reader();
+    let mut at: usize = 0;
+    while at < room.len() {
+        let Ok(n) = reader.read(&mut room[at..]) else {
+            return at;
+        };
+        if n == 0 {
+            return at;
+        }
+        at += n;
+    }
+    at
+}
+
+fn main(rt: HostRuntime) {
     let mut text = [0u8; 16385];
-    let got = io::read_full(libc::STDIN_FILENO, &mut text);
-    answer(&text[..got]);
+    let got = read_full(&rt, &mut text);
+    answer(&rt, &text[..got]);
 }

@@ -6,7 +6,6 @@ ghost use Rattle.profile.specs.Versions.{newest_rules};
 ghost use Rattle.holdlist.specs.Prints.{Prints};
 ghost use Rattle.holdlist.specs.Text.{printed};
 
-use libc::{STDERR_FILENO, STDOUT_FILENO};
 use standard_input::Input;
 
 // One byte more than the longest script, so that a longer one is seen to be longer.
@@ -34,20 +33,20 @@ fn put_answer(script: &[u8], out: &mut [u8]) -> usize
 }
 
 // Prints the answer to a script. A write that fails is said on standard error.
-fn print_answer(script: &[u8]) {
+fn print_answer(rt: &(impl Print + Eprint), script: &[u8]) {
     let mut text = text_room();
     let n = put_answer(script, &mut text);
-    if !io::write_all(STDOUT_FILENO, &text[..n]) {
-        io::write_all(STDERR_FILENO, b"booth: cannot write standard output\n");
+    if rt.write_all(&text[..n]).is_err() {
+        let _ = rt.eprintln("booth: cannot write standard output");
     }
 }
 
-fn main() {
+fn main(rt: HostRuntime) {
     let mut script = script_room();
-    match standard_input::read_all(&mut script) {
-        Input::Bytes(n) => print_answer(&script[..n]),
+    match standard_input::read_all(&rt, &mut script) {
+        Input::Bytes(n) => print_answer(&rt, &script[..n]),
         Input::Failed => {
-            io::write_all(STDERR_FILENO, b"booth: cannot read standard input\n");
+            let _ = rt.eprintln("booth: cannot read standard input");
         }
     }
 }

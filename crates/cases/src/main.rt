@@ -10,8 +10,8 @@ ghost use Rattle.std.specs.Prelude.{◌≡◌, length};
 
 use crate::answers::put_answer;
 use crate::raw::four_at;
-use libc::{STDERR_FILENO, STDOUT_FILENO};
 use standard_input::{Input, read_all};
+use std::io::Input as Reading;
 
 // How a case went.
 #[derive(Clone, Copy)]
@@ -37,30 +37,36 @@ fn text_room() -> [u8; 131072]
 }
 
 // Prints the answer to case k. No text is a payload at fault; what cannot be written is left.
-fn print_answer(k: u64, kind: u8, payload: &mut [u8], text: &mut [u8]) -> Outcome {
+fn print_answer(rt: &impl Print, k: u64, kind: u8, payload: &mut [u8], text: &mut [u8]) -> Outcome {
     let n = put_answer(text, k, kind, payload);
     if n == 0 {
         return Outcome::Fault;
     }
-    io::write_all(STDOUT_FILENO, &text[..n]);
+    let _ = rt.write_all(&text[..n]);
     Outcome::Answered
 }
 
 // Reads the payload of case k and prints its answer.
-fn answer_payload(k: u64, kind: u8, payload: &mut [u8], text: &mut [u8]) -> Outcome {
-    let Input::Bytes(n) = read_all(payload) else {
+fn answer_payload(
+    rt: &(impl Reading + Print),
+    k: u64,
+    kind: u8,
+    payload: &mut [u8],
+    text: &mut [u8],
+) -> Outcome {
+    let Input::Bytes(n) = read_all(rt, payload) else {
         return Outcome::Failed;
     };
     if n < payload.len() {
         return Outcome::Fault;
     }
-    print_answer(k, kind, payload, text)
+    print_answer(rt, k, kind, payload, text)
 }
 
 // Reads case k and prints its answer.
-fn answer_case(k: u64, room: &mut [u8], text: &mut [u8]) -> Outcome {
+fn answer_case(rt: &(impl Reading + Print), k: u64, room: &mut [u8], text: &mut [u8]) -> Outcome {
     let mut head = [0u8; 5];
-    let Input::Bytes(n) = read_all(&mut head) else {
+    let Input::Bytes(n) = read_all(rt, &mut head) else {
         return Outcome::Failed;
     };
     if n == 0 {
@@ -73,14 +79,14 @@ fn answer_case(k: u64, room: &mut [u8], text: &mut [u8]) -> Outcome {
     if room.len() < length {
         return Outcome::Fault;
     }
-    answer_payload(k, head[0], &mut room[..length], text)
+    answer_payload(rt, k, head[0], &mut room[..length], text)
 }
 
 // Answers case after case until the batch ends.
-fn answer_cases(room: &mut [u8], text: &mut [u8]) -> Outcome {
+fn answer_cases(rt: &(impl Reading + Print), room: &mut [u8], text: &mut [u8]) -> Outcome {
     let mut k: u64 = 0;
     while k < 18446744073709551615 {
-        let outcome = answer_case(k, room, text);
+        let outcome = answer_case(rt, k, room, text);
         match outcome {
             Outcome::Answered => {}
             _ => return outcome,
@@ -90,15 +96,15 @@ fn answer_cases(room: &mut [u8], text: &mut [u8]) -> Outcome {
     Outcome::Ended
 }
 
-fn main() {
+fn main(rt: HostRuntime) {
     let mut room = payload_room();
     let mut text = text_room();
-    match answer_cases(&mut room, &mut text) {
+    match answer_cases(&rt, &mut room, &mut text) {
         Outcome::Fault => {
-            io::write_all(STDERR_FILENO, b"cases: the batch is at fault\n");
+            let _ = rt.eprintln("cases: the batch is at fault");
         }
         Outcome::Failed => {
-            io::write_all(STDERR_FILENO, b"cases: cannot read standard input\n");
+            let _ = rt.eprintln("cases: cannot read standard input");
         }
         _ => {}
     }

@@ -4,7 +4,7 @@
 ghost use Rattle.std.specs.Prelude.{length};
 ghost use Rattle.standard_input.specs.Input.{Inside};
 
-use libc::STDIN_FILENO;
+use std::io::{Input as Reading, Read};
 
 // What came: so many bytes, or a read that failed.
 #[derive(Clone, Copy)]
@@ -14,23 +14,23 @@ pub enum Input {
 }
 
 // Reads once: no bytes at the end of the input. A read that fails is not an end.
-fn read_some(room: &mut [u8]) -> Input
+fn read_some(reader: &mut impl Read, room: &mut [u8]) -> Input
     ensures { Inside result (length room.old) }
 {
-    let got = libc::read(STDIN_FILENO, room);
-    if got < 0 {
-        return Input::Failed;
+    match reader.read(room) {
+        Ok(n) => Input::Bytes(n),
+        Err(_) => Input::Failed,
     }
-    Input::Bytes(io::count(got, room))
 }
 
 // Reads until the input ends or the room is full.
-pub fn read_all(room: &mut [u8]) -> Input
+pub fn read_all(rt: &impl Reading, room: &mut [u8]) -> Input
     ensures { Inside result (length room.old) }
 {
+    let mut reader = rt.reader();
     let mut at: usize = 0;
     while at < room.len() {
-        let Input::Bytes(n) = read_some(&mut room[at..]) else {
+        let Input::Bytes(n) = read_some(&mut reader, &mut room[at..]) else {
             return Input::Failed;
         };
         if n == 0 {
