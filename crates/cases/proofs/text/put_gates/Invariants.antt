@@ -1,0 +1,14 @@
+-- The loop's invariant: the first i are put.
+-- Assumes nothing.
+use Prim.Native.Nat.{◌-◌}
+use lib.ListN.{get_or}
+use Rattle.profile.specs.Values.{empty_gate}
+use Rattle.holdlist.proofs.Puts.{Chunked}
+use Rattle.cases.specs.Answer.{afters, gate_numbers}
+use Rattle.cases.proofs.text.put_gates.Given as goal
+
+abbrev pub invariant-loop-i : goal.invariant-loop-i
+invariant-loop-i l = Chunked (λ j. afters (gate_numbers (get_or l.gates j empty_gate))) 5 l.initial.out l.at l.to l.out l.i
+
+abbrev pub decreases-loop-i : goal.decreases-loop-i
+decreases-loop-i l = 5 - l.i
