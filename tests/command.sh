@@ -262,9 +262,10 @@ done
 copy=$work/copy
 fresh() {
   rm -rf "$copy"
-  mkdir -p "$copy/docs" "$copy/target/bin" "$copy/target/stamp"
-  cp booth crates.txt "$copy/"; cp docs/RULES.md "$copy/docs/"
+  mkdir -p "$copy/docs" "$copy/tools" "$copy/target/bin" "$copy/target/stamp"
+  cp booth crates.txt "$copy/"; cp docs/RULES.md "$copy/docs/"; cp tools/prove "$copy/tools/"
   for name in $(sed 's/#.*//; s/:.*//' crates.txt); do mkdir -p "$copy/crates/$name/src"; done
+  for name in booth ask; do cp "crates/$name/stdout" "$copy/crates/$name/"; : > "$copy/crates/$name/src/main.rt"; done
   find "$copy" -exec touch -d '1 hour ago' {} +
 }
 stub() { printf '#!/usr/bin/env bash\n%s\n' "$2" > "$copy/target/bin/$1"; chmod +x "$copy/target/bin/$1"; : > "$copy/target/stamp/$1"; }
@@ -304,19 +305,20 @@ stub booth 'cat > /dev/null; echo "refused 13 0"'
 rm "$copy/docs/RULES.md"
 try "no rule book" 1 "refused 13 0" "booth: refused 13: see docs/RULES.md, place 0" "$copy/booth" examples/base.bin
 
-# ---- the first use, with a stub for the prover, which takes some time, makes the program where there is no stamp of it, and then the stamp
+# ---- the first use, with a stub for the prover, which takes some time, makes the program in its crate's out/ and prints what it has to print
 mkdir "$work/tools"
 cat > "$work/tools/rt" << END
 #!/usr/bin/env bash
 [ "\$1" != version ] || { echo stub; exit 0; }
-echo "\$2" >> $work/proved
+name=\${PWD##*/}
+echo "\$name" >> $work/proved
 sleep "\${RT_SLEEP:-0.1}"
-[ "\$2" != "\${RT_FAILS:-}" ] || { echo 'not proved'; exit 1; }
-mkdir -p target/stamp
-[ ! -f target/stamp/\$2 ] || exit 0
-case \$2 in booth | ask) [ -n "\${RT_EMPTY:-}" ] || cp $PWD/target/bin/\$2 target/bin/ ;; esac
-[ "\$2" != "\${RT_RUN_FAILS:-}" ] || { echo 'wrote something else'; exit 1; }
-: > target/stamp/\$2
+[ "\$name" != "\${RT_FAILS:-}" ] || { echo 'not proved'; exit 1; }
+[ "\$1" == run ] || exit 0
+mkdir -p out
+[ -n "\${RT_EMPTY:-}" ] || cp $PWD/target/bin/\$name out/
+[ "\$name" != "\${RT_RUN_FAILS:-}" ] || { echo 'something else'; exit 0; }
+cat stdout
 END
 chmod +x "$work/tools/rt"
 with() { PATH=$work/tools:$PATH "$@"; }
@@ -363,7 +365,7 @@ fresh
 RT_FAILS=level with try "a crate that is not proved" 2 "" "${steps%%$'\n'*}"$'\n'"booth: 1 of 6: profile proved .*"$'\n'"booth: not built: level is not proved: $copy/target/booth.log says why" "$copy/booth" examples/base.bin
 RT_EMPTY=1 with try "a program that was not built" 2 "" ".*booth: not built: no target/bin/booth: $copy/target/booth.log says why" "$copy/booth" examples/base.bin
 mkdir "$work/bare"
-for name in bash env timeout readlink awk find sed head od tr git flock mkdir rm touch cat wc; do ln -s "$(command -v "$name")" "$work/bare/"; done
+for name in bash env timeout readlink awk find sed head od tr git flock cmp cp mkdir mv rm touch cat wc; do ln -s "$(command -v "$name")" "$work/bare/"; done
 PATH=$work/bare try "no prover" 2 "" "booth: not built: rt, Rattle's command, is not on PATH" "$copy/booth" examples/base.bin
 for name in awk cat find head od readlink sed tr; do
   mv "$work/bare/$name" "$work/away"

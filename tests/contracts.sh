@@ -8,7 +8,7 @@ cd "$(dirname "$0")/.." || exit 1
 contracts() {
   awk '
     function empty(t) {
-      sub(/.*⌜/, "", t); sub(/⌝.*/, "", t); gsub(/[ \t]/, "", t)
+      sub(/[^{]*{/, "", t); sub(/}[^}]*$/, "", t); gsub(/[ \t]/, "", t)
       if (t == "" || t == "⊤" || t ~ /^Unit({0})?$/ || t == "true≡true") return 1
       n = split(t, side, "≡")
       return n == 2 && side[1] == side[2]
@@ -24,7 +24,7 @@ contracts() {
     /^[ \t]*pub fn / { judge(); name = $0; sub(/.*pub fn /, "", name); sub(/[(<].*/, "", name); name = FILENAME ": " name; asks = 0; gives = 0 }
     name != "" && /requires/ { asks = 1 }
     name != "" && /ensures/ { if (empty($0)) { print "contracts: " name " promises nothing"; bad = 1 } else gives = 1 }
-    name != "" && /(^|[^λ⌜ ] *){[ \t]*$/ && !/ensures|requires/ { judge() }
+    name != "" && /(^|[^λ ] *){[ \t]*$/ && !/ensures|requires/ { judge() }
     END { judge(); if (!seen) { print "contracts: no public function"; bad = 1 } else if (!bad) print "contracts: " seen " public functions"; exit bad }
   ' "$@"
 }
@@ -33,13 +33,14 @@ contracts() {
 work=$(mktemp -d) || exit 1
 trap 'rm -rf "$work"' EXIT
 told() { printf '%b' "$2" > "$work/sample.rt"; contracts "$work/sample.rt" | grep -qF "$1" || { echo "contracts: the test does not see: $1"; exit 1; }; }
-told 'asks something' 'pub fn f(x: u16) -> u16\n    requires { ⌜ x < 1 ⌝ }\n    ensures { λ r. ⌜ r ≡ x ⌝ }\n{\n'
+told 'asks something' 'pub fn f(x: u16) -> u16\n    requires { x < 1 }\n    ensures { result ≡ x }\n{\n'
 told 'states no answer' 'pub fn f(x: u16) -> u16 {\n'
 told 'states no answer' 'impl S {\n    pub fn f(x: u16) -> u16\n    {\n        x\n    }\n}\n'
-told 'promises nothing' 'pub fn f(x: u16) -> u16\n    ensures { λ r. ⌜ ⌝ }\n{\n'
-told 'promises nothing' 'pub fn f(x: u16) -> u16\n    ensures { λ r. ⌜ r ≡ r ⌝ }\n{\n'
-told 'promises nothing' 'pub fn f(x: u16) -> u16\n    ensures { λ r. ⌜ Unit {0} ⌝ }\n{\n'
-told '1 public functions' 'pub fn f(\n    x: u16,\n) -> u16\n    ensures { λ r. ⌜ r ≡ x ⌝ }\n{\n'
+told 'promises nothing' 'pub fn f(x: u16) -> u16\n    ensures { }\n{\n'
+told 'promises nothing' 'pub fn f(x: u16) -> u16\n    ensures { result ≡ result }\n{\n'
+told 'promises nothing' 'pub fn f(x: u16) -> u16\n    ensures { Unit {0} }\n{\n'
+told 'promises nothing' 'pub fn f(x: u16) -> u16\n    ensures value { result ≡ x }\n    ensures rest { result ≡ result }\n{\n'
+told '1 public functions' 'pub fn f(\n    x: u16,\n) -> u16\n    ensures { result ≡ x }\n{\n'
 
 contracts crates/*/src/*.rt || exit 1
 if grep -nE '^ *(axiom|postulate|extern)\b' -r crates --include=*.antt --include=*.rt; then

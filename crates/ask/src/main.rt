@@ -9,6 +9,11 @@ ghost use Rattle.std.specs.Prelude.{◌≡◌, length};
 
 use crate::answers::put_answer;
 use standard_input::Input;
+use std::io::ErrorKind;
+use std::process::ExitCode;
+
+// The status, as a shell tells it, of a program that the signal of a closed pipe ended.
+const CLOSED_PIPE: u8 = 141;
 
 // A question of 123 bytes, its end, and one byte more than the longest script, so that a longer one is seen to be longer.
 fn input_room() -> [u8; 16509]
@@ -24,25 +29,31 @@ fn text_room() -> [u8; 1400]
     [0; 1400]
 }
 
-// Every question that there is has an answer.
-fn print_answer(rt: &(impl Print + Eprint), input: &[u8]) {
+// Every question that there is has an answer. A write that fails is said on standard error; where nobody listens any more, nothing is said.
+fn print_answer(rt: &(impl Print + Eprint), input: &[u8]) -> ExitCode {
     let mut text = text_room();
     let n = put_answer(input, &mut text);
     if n == 0 {
         let _ = rt.eprintln("ask: no such question");
-        return;
+        return ExitCode::SUCCESS;
     }
-    if rt.write_all(&text[..n]).is_err() {
-        let _ = rt.eprintln("ask: cannot write standard output");
+    match rt.write_all(&text[..n]) {
+        Ok(()) => ExitCode::SUCCESS,
+        Err(error) if error.kind() == ErrorKind::BrokenPipe => ExitCode::from(CLOSED_PIPE),
+        Err(_) => {
+            let _ = rt.eprintln("ask: cannot write standard output");
+            ExitCode::SUCCESS
+        }
     }
 }
 
-fn main(rt: HostRuntime) {
+fn main(rt: HostRuntime) -> ExitCode {
     let mut input = input_room();
     match standard_input::read_all(&rt, &mut input) {
         Input::Bytes(n) => print_answer(&rt, &input[..n]),
         Input::Failed => {
             let _ = rt.eprintln("ask: cannot read standard input");
+            ExitCode::SUCCESS
         }
     }
 }

@@ -7,6 +7,11 @@ ghost use Rattle.holdlist.specs.Prints.{Prints};
 ghost use Rattle.holdlist.specs.Text.{printed};
 
 use standard_input::Input;
+use std::io::ErrorKind;
+use std::process::ExitCode;
+
+// The status, as a shell tells it, of a program that the signal of a closed pipe ended.
+const CLOSED_PIPE: u8 = 141;
 
 // One byte more than the longest script, so that a longer one is seen to be longer.
 fn script_room() -> [u8; 16385]
@@ -32,21 +37,27 @@ fn put_answer(script: &[u8], out: &mut [u8]) -> usize
     holdlist::put_text_in(out, 0, profile::newest_rules(), script)
 }
 
-// Prints the answer to a script. A write that fails is said on standard error.
-fn print_answer(rt: &(impl Print + Eprint), script: &[u8]) {
+// Prints the answer to a script. A write that fails is said on standard error; where nobody listens any more, nothing is said.
+fn print_answer(rt: &(impl Print + Eprint), script: &[u8]) -> ExitCode {
     let mut text = text_room();
     let n = put_answer(script, &mut text);
-    if rt.write_all(&text[..n]).is_err() {
-        let _ = rt.eprintln("booth: cannot write standard output");
+    match rt.write_all(&text[..n]) {
+        Ok(()) => ExitCode::SUCCESS,
+        Err(error) if error.kind() == ErrorKind::BrokenPipe => ExitCode::from(CLOSED_PIPE),
+        Err(_) => {
+            let _ = rt.eprintln("booth: cannot write standard output");
+            ExitCode::SUCCESS
+        }
     }
 }
 
-fn main(rt: HostRuntime) {
+fn main(rt: HostRuntime) -> ExitCode {
     let mut script = script_room();
     match standard_input::read_all(&rt, &mut script) {
         Input::Bytes(n) => print_answer(&rt, &script[..n]),
         Input::Failed => {
             let _ = rt.eprintln("booth: cannot read standard input");
+            ExitCode::SUCCESS
         }
     }
 }
