@@ -1,12 +1,12 @@
 #!/bin/bash
 # How the cost of the whole job grows: edges a line, lines and pixels a line are doubled, one at a time, from a field of 512 lines of 1024 pixels with 16 edges a
 # line. Both engines of the program target/bin/bench beside the C programs bench/edges.c and bench/job.c, as in bench/job.sh. Prints the least CPU times in
-# milliseconds and draws them into docs/growth.svg (bench/plot.py). No list has room, so that all go over the field once. First `rt check bench` makes the program.
+# milliseconds and draws them into docs/growth.svg (bench/plot.py). No list has room, so that all go over the field once. First `tools/prove bench` makes the program.
 # bench/growth.sh [RUNS] [SVG]   (10, docs/growth.svg)
 set -eu
 cd "$(dirname "$0")/.."
 runs=${1:-10} svg=${2:-docs/growth.svg}
-[ -x target/bin/bench ] || { echo "no target/bin/bench: run rt check bench"; exit 2; }
+[ -x target/bin/bench ] || { echo "no target/bin/bench: run tools/prove bench"; exit 2; }
 for program in edges job; do gcc -std=c99 -O2 -Wall -Wextra -o target/bench-$program bench/$program.c; done
 work=$(mktemp -d)
 trap 'rm -rf "$work"' EXIT

@@ -1,13 +1,13 @@
 #!/bin/bash
 # Times the whole job by both engines of the program target/bin/bench, beside the C programs bench/edges.c and bench/job.c, in turns on the same scripts, and
 # prints for each script what is printed first, the least CPU times in milliseconds less the start (bench/cpu.py), and the ratios; the first four also together.
-# Then the least stack in which the program target/bin/booth does all of them. First `rt check bench` and `rt check booth` make the programs.
+# Then the least stack in which the program target/bin/booth does all of them. First `tools/prove bench` and `tools/prove booth` make the programs.
 # bench/job.sh [RUNS]   (10)
 set -eu
 cd "$(dirname "$0")/.."
 runs=${1:-10}
 booth=target/bin/booth c=target/bench-edges
-for program in bench booth; do [ -x target/bin/$program ] || { echo "no target/bin/$program: run rt check $program"; exit 2; }; done
+for program in bench booth; do [ -x target/bin/$program ] || { echo "no target/bin/$program: run tools/prove $program"; exit 2; }; done
 for program in edges job; do gcc -std=c99 -O2 -Wall -Wextra -o target/bench-$program bench/$program.c; done
 work=$(mktemp -d)
 trap 'rm -rf "$work"' EXIT

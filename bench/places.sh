@@ -1,13 +1,13 @@
 #!/bin/bash
 # Times the places (N) and the words (L) of a field's last two pixels, each with its check, and the check alone (C): the Rattle program crates/bench, the same program from an earlier commit
 # where one is named, and the C program bench/places.c, in turns on the same scripts. Prints the nanoseconds an answer (the least user time of the runs over
-# 100,000 answers) and the ratios. First `rt check bench` makes the program; for the earlier one, do the same in a clone into which crates/bench was copied.
+# 100,000 answers) and the ratios. First `tools/prove bench` makes the program; for the earlier one, do the same in a clone into which crates/bench was copied.
 # bench/places.sh [RUNS] [PROGRAM]   (10)
 set -eu
 cd "$(dirname "$0")/.."
 runs=${1:-10} before=${2:-}
 rattle=target/bin/bench c=target/bench-places
-[ -x "$rattle" ] || { echo "no $rattle: run rt check bench"; exit 2; }
+[ -x "$rattle" ] || { echo "no $rattle: run tools/prove bench"; exit 2; }
 gcc -std=c99 -O2 -Wall -Wextra -o "$c" bench/places.c
 work=$(mktemp -d)
 trap 'rm -rf "$work"' EXIT

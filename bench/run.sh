@@ -1,12 +1,12 @@
 #!/bin/bash
 # Times the Rattle program crates/bench and the C program bench/levels.c on the same numbers, in turns, and prints for each input
-# the nanoseconds a pixel (the least user time of the runs over 16,769,025 pixels) and the ratio. First `rt check bench` makes the program.
+# the nanoseconds a pixel (the least user time of the runs over 16,769,025 pixels) and the ratio. First `tools/prove bench` makes the program.
 # bench/run.sh [RUNS]   (10)
 set -eu
 cd "$(dirname "$0")/.."
 runs=${1:-10}
 rattle=target/bin/bench c=target/bench-levels
-[ -x "$rattle" ] || { echo "no $rattle: run rt check bench"; exit 2; }
+[ -x "$rattle" ] || { echo "no $rattle: run tools/prove bench"; exit 2; }
 gcc -O2 -Wall -Wextra -o "$c" bench/levels.c
 TIMEFORMAT=%3U
 

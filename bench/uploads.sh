@@ -1,13 +1,13 @@
 #!/bin/bash
 # Times reading a script of 16,384 bytes at once (R), in one chunk (U), in chunks of 64 bytes (S) and byte by byte (B): the Rattle program crates/bench and
 # the C program bench/uploads.c, in turns. Prints the microseconds a script (the least user time of the runs over 1,000 reads), the ratio to reading at
-# once, and to C. First `rt check bench` makes the program.
+# once, and to C. First `tools/prove bench` makes the program.
 # bench/uploads.sh [RUNS]   (10)
 set -eu
 cd "$(dirname "$0")/.."
 runs=${1:-10}
 rattle=target/bin/bench c=target/bench-uploads
-[ -x "$rattle" ] || { echo "no $rattle: run rt check bench"; exit 2; }
+[ -x "$rattle" ] || { echo "no $rattle: run tools/prove bench"; exit 2; }
 gcc -std=c99 -O2 -Wall -Wextra -Wno-unused-function -o "$c" bench/uploads.c
 work=$(mktemp -d)
 trap 'rm -rf "$work"' EXIT
