@@ -42,11 +42,19 @@ timeout 20 "$program" < examples/base.bin >&- 2> "$work/err"
 check "a closed output" "" "booth: cannot write standard output"
 timeout 20 "$program" < examples/base.bin > /dev/full 2> "$work/err"
 check "a full output" "" "booth: cannot write standard output"
-(trap '' PIPE; timeout 20 "$program" < examples/sweep.bin 2> "$work/err") | true
+early() {
+  local status=${PIPESTATUS[0]}
+  [ "$status" -eq 141 ] || [ "$status" -eq 0 ] || echo "early: status $status" > "$work/err"
+}
+(trap '' PIPE; timeout 20 "$program" < examples/sweep.bin 2> "$work/err") | true; early
 check "an output that closes early, no signal" ""
-timeout 20 "$program" < examples/sweep.bin 2> "$work/err" | true; status=${PIPESTATUS[0]}
-[ "$status" -eq 141 ] || [ "$status" -eq 0 ] || echo "early: status $status" > "$work/err"
+timeout 20 "$program" < examples/sweep.bin 2> "$work/err" | true; early
 check "an output that closes early" ""
+# one that is closed before anything is written ends it with that status, and says nothing
+mkfifo "$work/pipe"
+(timeout 20 "$program" < <(sleep 0.3; cat examples/sweep.bin) 2> "$work/err"; echo $? > "$work/status") > "$work/pipe" & : < "$work/pipe"; wait $!
+[ "$(cat "$work/status")" == 141 ] || echo "closed before: status $(cat "$work/status")" > "$work/err"
+check "an output that is closed before" ""
 
 (ulimit -s 256; run < examples/base.bin); check "a stack of 256 KB" "$w1"
 

@@ -11,7 +11,11 @@ ghost use Rattle.std.specs.Prelude.{◌≡◌, length};
 use crate::answers::put_answer;
 use crate::raw::four_at;
 use standard_input::{Input, read_all};
-use std::io::Input as Reading;
+use std::io::{ErrorKind, Input as Reading};
+use std::process::ExitCode;
+
+// The status, as a shell tells it, of a program that the signal of a closed pipe ended.
+const CLOSED_PIPE: u8 = 141;
 
 // How a case went.
 #[derive(Clone, Copy)]
@@ -20,6 +24,7 @@ enum Outcome {
     Ended,
     Fault,
     Failed,
+    Closed,
 }
 
 // Room for the longest payload.
@@ -36,14 +41,16 @@ fn text_room() -> [u8; 131072]
     [0; 131072]
 }
 
-// Prints the answer to case k. No text is a payload at fault; what cannot be written is left.
+// Prints the answer to case k. No text is a payload at fault; what cannot be written is left, unless nobody listens any more.
 fn print_answer(rt: &impl Print, k: u64, kind: u8, payload: &mut [u8], text: &mut [u8]) -> Outcome {
     let n = put_answer(text, k, kind, payload);
     if n == 0 {
         return Outcome::Fault;
     }
-    let _ = rt.write_all(&text[..n]);
-    Outcome::Answered
+    match rt.write_all(&text[..n]) {
+        Err(error) if error.kind() == ErrorKind::BrokenPipe => Outcome::Closed,
+        _ => Outcome::Answered,
+    }
 }
 
 // Reads the payload of case k and prints its answer.
@@ -96,7 +103,7 @@ fn answer_cases(rt: &(impl Reading + Print), room: &mut [u8], text: &mut [u8]) -
     Outcome::Ended
 }
 
-fn main(rt: HostRuntime) {
+fn main(rt: HostRuntime) -> ExitCode {
     let mut room = payload_room();
     let mut text = text_room();
     match answer_cases(&rt, &mut room, &mut text) {
@@ -106,6 +113,8 @@ fn main(rt: HostRuntime) {
         Outcome::Failed => {
             let _ = rt.eprintln("cases: cannot read standard input");
         }
+        Outcome::Closed => return ExitCode::from(CLOSED_PIPE),
         _ => {}
     }
+    ExitCode::SUCCESS
 }
