@@ -6,6 +6,7 @@ usage: python3 tools/respell.py [--list]    at the top, once, right after port.p
 A name that would fall together with another gets `_lem` behind it. Functions of src/, strings, inputs and outputs keep their names.
 """
 import glob
+import os
 import re
 import sys
 
@@ -133,6 +134,8 @@ def prose_of(path, text):
 
 
 def main():
+    if os.path.exists("docs/PORT.md") and "--list" not in sys.argv:
+        sys.exit("respell: docs/PORT.md stands, so it ran here already; run again it would change names that are right")
     new, fields = renames()
     if "--list" in sys.argv:
         for n in sorted(new):

@@ -30,7 +30,7 @@ use Rattle.holdlist.specs.Runs.{step_counts, step_words}
 use Rattle.holdlist.specs.Compile.{hold_verdict, hold_answer, profile_words, field_runs, compile_answer}
 use Rattle.holdlist.specs.Text.{refused_line, listing, printed_answer, printed_of, printed}
 use Rattle.holdlist.specs.Readback.{Tells, TellsRefusal}
-use Rattle.holdlist.specs.Prints.{Shortest, Prints, refusal, no_room_lem, steps_told}
+use Rattle.holdlist.specs.Prints.{Shortest, Prints, refusal, without_room, steps_told}
 use Rattle.holdlist.proofs.Runs.{runs_word, runs_one}
 use Rattle.holdlist.proofs.Shortest.{expands, no-fewer, counts_many, words_many, encoded_whole}
 use Rattle.holdlist.proofs.Demanded.{plays-field, field_small}
@@ -135,7 +135,7 @@ module _ (rules : Ruleset) (s : List ℕ) (b : Bytes s) where
       (subst (λ (t : List ℕ). Tells t (steps rules p) (pixels rules p) (counts rules p) (words rules p)) (sym (printed-list rules s p e ok h)) (list_told rules p)))
       (λ q.
       let h = leb-false (steps rules p) 4096 q in
-      no_room_lem p (steps rules p) (counts rules p) (words rules p) (reads e) (shortest rules p) h
+      without_room p (steps rules p) (counts rules p) (words rules p) (reads e) (shortest rules p) h
       (subst (λ (t : List ℕ). TellsRefusal t (refused 18 (steps rules p))) (sym (printed-no-room rules s p e ok h)) (refusal_told (refused 18 (steps rules p)))))
 
   prints_unread : (v : Verdict) → read_script rules s ≡ unread v → Prints rules s (printed rules s)
@@ -158,7 +158,7 @@ module _ (rules : Ruleset) (s : List ℕ) (b : Bytes s) where
   printed_one text (refusal v r t) =
       let e = (read_exactly rules s b (unread v)).1 r in
       printed-unread rules s v e (unread_number v e) ∙ tells_refusal_one _ text v (refusal_told v) t
-  printed_one text (no_room_lem p k cs ws r w h t) =
+  printed_one text (without_room p k cs ws r w h t) =
       let e = (read_exactly rules s b (taken p)).1 r in
       let same = shortest-steps rules p w in
       printed-no-room rules s p e (taken-accepted p e) (omega (arith, h, same))

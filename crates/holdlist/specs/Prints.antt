@@ -23,7 +23,7 @@ pub data Prints (rules : Ruleset) (script text : List ℕ) : Type 0 where
   -- "`refused N P` alone", or "`refused 10 P O T`", of the script's first broken rule
   refusal : (v : Verdict) → Reads rules script (unread v) → TellsRefusal text v → Prints rules script text
   -- "has room for 4,096 steps": 18 with their number, where they are more
-  no_room_lem : (p : Profile) (steps : ℕ) (counts words : List ℕ)
+  without_room : (p : Profile) (steps : ℕ) (counts words : List ℕ)
       → Reads rules script (taken p) → Shortest rules p steps counts words → 4096 < steps → TellsRefusal text (refused 18 steps) → Prints rules script text
   -- S, P and the S steps
   steps_told : (p : Profile) (steps : ℕ) (counts words : List ℕ)

@@ -12,12 +12,12 @@ use Rattle.profile.specs.Values.{Sized, empty_profile}
 use Rattle.profile.specs.Script.{with_record}
 use Rattle.profile.specs.Records.{
   Fits,
-  register_fits_lem,
-  sequence_fits_lem,
-  field_fits_lem,
-  gate_fits_lem,
-  subck_fits_lem,
-  shutter_fits_lem,
+  fits_register,
+  fits_sequence,
+  fits_field,
+  fits_gate,
+  fits_subck,
+  fits_shutter,
   Record,
   with_records,
   profile_of,
@@ -100,17 +100,17 @@ own_item l m k v d h g = get_or-set_same l k v d h ∙ sym (get_or-set_same m k 
 -- its own item is what it says, whatever was there
 with_own : (b : List ℕ) (k : ℕ) → Fits b k → (p q : Profile) → Sized p → Sized q → Same (item_of k b) (with_record k b p) (with_record k b q)
 unfolding with_record
-with_own b k (register_fits_lem h l u) p q y z =
+with_own b k (fits_register h l u) p q y z =
     let x = own_halves p.tables.registers (get_or b 0 0) _ _ h y.registers in
     let x' = own_halves q.tables.registers (get_or b 0 0) _ _ h z.registers in
     (x.0 ∙ sym x'.0, x.1 ∙ sym x'.1)
-with_own b k (sequence_fits_lem h w) p q y z =
+with_own b k (fits_sequence h w) p q y z =
     own_item p.tables.sequences q.tables.sequences (number_at b 0) _ _ (omega (arith, y.sequences)) (omega (arith, z.sequences))
-with_own b k (field_fits_lem two h w r) p q y z = refl
-with_own b k (gate_fits_lem h w) p q y z =
+with_own b k (fits_field two h w r) p q y z = refl
+with_own b k (fits_gate h w) p q y z =
     own_item p.tables.gates q.tables.gates (number_at b 0) _ _ (omega (arith, y.gates)) (omega (arith, z.gates))
-with_own b k (subck_fits_lem w) p q y z = refl
-with_own b k (shutter_fits_lem h w) p q y z =
+with_own b k (fits_subck w) p q y z = refl
+with_own b k (fits_shutter h w) p q y z =
     own_item p.tables.shutters q.tables.shutters (number_at b 0) _ _ (omega (arith, y.shutters)) (omega (arith, z.shutters))
 
 -- ---- all records

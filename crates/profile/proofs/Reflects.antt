@@ -286,8 +286,8 @@ says_second t f a line =
     (says_first_ends r (s.start + r * (pattern_at t f i).length) a.length) in (
       (λ e.
           let q = w.0 e in
-          record { plain = q.0.0.0.0; length = q.0.0.0.1; toggles = q.0.0.1; shorter = q.0.1; first_ends_lem = q.1 }),
-      λ q. w.1 ((((q.plain, q.length), q.toggles), q.shorter), q.first_ends_lem),
+          record { plain = q.0.0.0.0; length = q.0.0.0.1; toggles = q.0.0.1; shorter = q.0.1; first_ended = q.1 }),
+      λ q. w.1 ((((q.plain, q.length), q.toggles), q.shorter), q.first_ended),
     )
 
 pub says_gate : (g : Gate) (length : ℕ) → Says (gate_right g length) (Pulses g length)

@@ -60,12 +60,12 @@ use Rattle.profile.specs.Records.{
   shutter_12,
   RegionFits,
   Fits,
-  register_fits_lem,
-  sequence_fits_lem,
-  field_fits_lem,
-  gate_fits_lem,
-  subck_fits_lem,
-  shutter_fits_lem,
+  fits_register,
+  fits_sequence,
+  fits_field,
+  fits_gate,
+  fits_subck,
+  fits_shutter,
   Record,
   bytes_of,
   script_of,
@@ -214,22 +214,22 @@ module _ (b : List ℕ) where
 
   pub fits_test : (k : ℕ) → Fits b k → fits k b ≡ true
   unfolding fits subck_fits
-  fits_test k (register_fits_lem h l u) = says_register.1 (h, l, u)
-  fits_test k (sequence_fits_lem h w) = says_sequence.1 (h, w)
-  fits_test k (field_fits_lem two h w r) = rw (form_of two (h, w, r)) ((says_field two).1 (h, w, r))
-  fits_test k (gate_fits_lem h w) = says_gate.1 (h, w)
-  fits_test k (subck_fits_lem w) = (subck_says (subck_from b)).1 w
-  fits_test k (shutter_fits_lem h w) = says_shutter.1 (h, w)
+  fits_test k (fits_register h l u) = says_register.1 (h, l, u)
+  fits_test k (fits_sequence h w) = says_sequence.1 (h, w)
+  fits_test k (fits_field two h w r) = rw (form_of two (h, w, r)) ((says_field two).1 (h, w, r))
+  fits_test k (fits_gate h w) = says_gate.1 (h, w)
+  fits_test k (fits_subck w) = (subck_says (subck_from b)).1 w
+  fits_test k (fits_shutter h w) = says_shutter.1 (h, w)
 
   test_fits : (k : ℕ) → Known k → fits k b ≡ true → Fits b k
   unfolding fits subck_fits
   test_fits zero h e = absurd (omega arith)
-  test_fits (suc zero) h e = let w = says_register.0 e in register_fits_lem w.0 w.1 w.2
-  test_fits (suc (suc zero)) h e = let w = says_sequence.0 e in sequence_fits_lem w.0 w.1
-  test_fits (suc (suc (suc zero))) h e = let w = (says_field (has_form true (length b))).0 e in field_fits_lem _ w.0 w.1 w.2
-  test_fits (suc (suc (suc (suc zero)))) h e = let w = says_gate.0 e in gate_fits_lem w.0 w.1
-  test_fits (suc (suc (suc (suc (suc zero))))) h e = subck_fits_lem ((subck_says (subck_from b)).0 e)
-  test_fits (suc (suc (suc (suc (suc (suc zero)))))) h e = let w = says_shutter.0 e in shutter_fits_lem w.0 w.1
+  test_fits (suc zero) h e = let w = says_register.0 e in fits_register w.0 w.1 w.2
+  test_fits (suc (suc zero)) h e = let w = says_sequence.0 e in fits_sequence w.0 w.1
+  test_fits (suc (suc (suc zero))) h e = let w = (says_field (has_form true (length b))).0 e in fits_field _ w.0 w.1 w.2
+  test_fits (suc (suc (suc (suc zero)))) h e = let w = says_gate.0 e in fits_gate w.0 w.1
+  test_fits (suc (suc (suc (suc (suc zero))))) h e = fits_subck ((subck_says (subck_from b)).0 e)
+  test_fits (suc (suc (suc (suc (suc (suc zero)))))) h e = let w = says_shutter.0 e in fits_shutter w.0 w.1
   test_fits (suc (suc (suc (suc (suc (suc (suc k))))))) h e = absurd (omega (arith, h.1))
 
 -- ---- one record

@@ -178,7 +178,7 @@ pub record Seconds (t : Tables) (f : Field) (a : Pattern) (line : ℕ) : Type 0 
   pub length : a.length ≡ 0 → ⊥
   pub toggles : (k : ℕ) → k < 6 → Rises Not4095 (row_of a.toggles k)
   pub shorter : a.length < line_length t f line
-  pub first_ends_lem : (repetitions (sequence_at t f (region_of f line)) line ≡ 0 → ⊥)
+  pub first_ended : (repetitions (sequence_at t f (region_of f line)) line ≡ 0 → ⊥)
       → (sequence_at t f (region_of f line)).start
       + repetitions (sequence_at t f (region_of f line)) line * (pattern_at t f (region_of f line)).length
       ≤ a.length

@@ -49,13 +49,13 @@ RegionFits head b i =
 
 -- the values that a body of each kind can have; of a field, in the form that has its length
 pub data Fits (b : List ℕ) : ℕ → Type 0 where
-  register_fits_lem : get_or b 0 0 ≤ 0x77 → HalfRanged (2 * get_or b 0 0) (low_from b) → HalfRanged (2 * get_or b 0 0 + 1) (high_from b) → Fits b 1
-  sequence_fits_lem : number_at b 0 ≤ 9 → SequenceRanged (sequence_from b) → Fits b 2
-  field_fits_lem : (two : Bool) → head_length two + region_length * count_from (head_length two) b ≡ length b → FieldRanged (field_with two b)
+  fits_register : get_or b 0 0 ≤ 0x77 → HalfRanged (2 * get_or b 0 0) (low_from b) → HalfRanged (2 * get_or b 0 0 + 1) (high_from b) → Fits b 1
+  fits_sequence : number_at b 0 ≤ 9 → SequenceRanged (sequence_from b) → Fits b 2
+  fits_field : (two : Bool) → head_length two + region_length * count_from (head_length two) b ≡ length b → FieldRanged (field_with two b)
       → ((i : ℕ) → i < count_from (head_length two) b → RegionFits (head_length two) b i) → Fits b 3
-  gate_fits_lem : number_at b 0 ≤ 4 → GateRanged (gate_from b) → Fits b 4
-  subck_fits_lem : SubckRanged (subck_from b) → Fits b 5
-  shutter_fits_lem : number_at b 0 ≤ 1 → ShutterRanged (shutter_from b) → Fits b 6
+  fits_gate : number_at b 0 ≤ 4 → GateRanged (gate_from b) → Fits b 4
+  fits_subck : SubckRanged (subck_from b) → Fits b 5
+  fits_shutter : number_at b 0 ≤ 1 → ShutterRanged (shutter_from b) → Fits b 6
 
 -- a record that can be read: a known kind, a length that it allows, values in range
 pub record Record : Type 0 where
