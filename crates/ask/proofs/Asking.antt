@@ -1,15 +1,18 @@
 -- Laws of a question's parts: where a byte stands first, and a number that is cut while it is read.
 -- Assumes nothing.
-use Prim.Native.Nat.{ℕ, suc, ◌+◌, ◌*◌, ◌-◌, ◌≤◌, ◌<◌, min}
+use Prim.Native.Nat.{ℕ, ◌+◌, ◌*◌, ◌-◌, ◌≤◌, ◌<◌}
 use native.Mathlib.Numerals.{add-one}
 use native.Mathlib.Omega.{arith}
-use mathlib.Core.Path.{◌≡◌, refl, sym, ap, ◌∙◌}
-use mathlib.Core.Bool.{cond}
-use mathlib.Core.List.{List, [], ◌∷◌}
+use mathlib.Core.Path.{◌≡◌, refl}
+use mathlib.Core.List.{List, [], ◌∷◌, ◌++◌}
 use lib.Dec.{eqb}
-use lib.ListN.{length, get_or, drop, drop_of_length-le}
-use lib.Seq.{drop-cons}
-use borrow.Author.Tests.{eq-eqb, ne_eqb}
+use lib.ListN.{length, get_or, take}
+use lib.Seq.{take-suc}
+use Rattle.std.specs.List.{position, position_or_len}
+use Rattle.std.specs.Option.{unwrap_or}
+use Rattle.std.proofs.Common.{Option}
+use Rattle.std.proofs.lemmas.Bool.Decides.{nat_tests}
+use Rattle.std.proofs.lemmas.List.Recursion.{is_position_or_len}
 use Rattle.profile.proofs.Laws.{by_cases}
 use Rattle.holdlist.specs.Text.{value_after, value_of}
 use Rattle.ask.specs.Question.{end_of}
@@ -22,78 +25,29 @@ end_inside c [] = omega arith
 end_inside c (x ∷ s) =
     by_cases (eqb x c) (λ q. rw q (omega arith)) (λ q. rw q (omega (arith, end_inside c s)))
 
--- it does not stand among the first i bytes
-pub record Sought (c : ℕ) (s : List ℕ) (i : ℕ) : Type 0 where
-  pub within : i ≤ length s
-  pub left : end_of c s ≡ i + end_of c (drop i s)
+pub end_first : (c : ℕ) (s : List ℕ) → end_of c s ≡ position_or_len (λ b. eqb b c) s
+unfolding end_of
+end_first c s = is_position_or_len (end_of c) (λ b. eqb b c) refl (λ _ _. refl) s
 
-module _ {c : ℕ} {s : List ℕ} where
-  pub sought_none : Sought c s 0
-  sought_none = record { within = omega arith; left = omega arith }
-
-  module _ {i : ℕ} (p : Sought c s i) where
-    here : i < length s → end_of c (drop i s) ≡ cond (eqb (get_or s i 0) c) 0 (1 + end_of c (drop (suc i) s))
-    unfolding end_of
-    here h = rw (drop-cons s i 0 h)
-
-    pub sought-here : i < length s → get_or s i 0 ≡ c → i ≡ end_of c s
-    sought-here h e =
-        let z : end_of c (drop i s) ≡ 0 = here h ∙ rw (eq-eqb (get_or s i 0) c e) in
-        omega (arith, p.left)
-
-    pub sought-more : i < length s → (get_or s i 0 ≡ c → ⊥) → Sought c s (i + 1)
-    sought-more h n =
-        let z : end_of c (drop i s) ≡ 1 + end_of c (drop (suc i) s) = here h ∙ rw (ne_eqb (get_or s i 0) c n) in
-        record { within = omega arith; left = rw add-one (omega (arith, p.left)) }
-
-    pub sought-all : length s ≤ i → i ≡ end_of c s
-    unfolding end_of
-    sought-all h =
-        let z : end_of c (drop i s) ≡ 0 = rw (drop_of_length-le s h) in
-        omega (arith, p.left)
-
-pub ruleset seeking = (sought_none, sought-more)
+-- the place where the library finds it, or the length
+pub end_found :
+    (c : ℕ) (s : List ℕ) (r : Option ℕ) → r ≡ position (λ b. eqb b c) s → {n : ℕ} → n ≡ unwrap_or r (length s) → n ≡ end_of c s
+end_found c s r e h = rw (h, e, end_first) (grind (arith, nat_tests, end_first c s, end_inside c s))
 
 -- ---- a number that is cut while it is read
 
 abbrev pub cap : ℕ
 cap = 1000000000000
 
-value_more : (v d : ℕ) (ds : List ℕ) → value_after v (d ∷ ds) ≡ value_after (10 * v + (d - 48)) ds
+value_more : (v : ℕ) (ds : List ℕ) (d : ℕ) → value_after v (ds ++ (d ∷ [])) ≡ 10 * value_after v ds + (d - 48)
 unfolding value_after
-value_more v d ds = refl
+value_more v [] d = refl
+value_more v (x ∷ ds) d = value_more (10 * v + (x - 48)) ds d
 
--- a number that is cut before digits is as one that is cut after them
-pub cut_after : (v : ℕ) (ds : List ℕ) → min (value_after (min v cap) ds) cap ≡ min (value_after v ds) cap
+pub value_none : value_of [] ≡ 0
 unfolding value_after
-cut_after v [] = omega arith
-cut_after v (d ∷ ds) =
-    let e : min (10 * min v cap + (d - 48)) cap ≡ min (10 * v + (d - 48)) cap = omega arith in
-    sym (cut_after (10 * min v cap + (d - 48)) ds) ∙ ap (λ (n : ℕ). min (value_after n ds) cap) e ∙ cut_after (10 * v + (d - 48)) ds
+value_none = refl
 
--- the first i digits are read
-pub record Valued (s : List ℕ) (v i : ℕ) : Type 0 where
-  pub within : i ≤ length s
-  pub low : v ≤ cap
-  pub left : min (value_of s) cap ≡ min (value_after v (drop i s)) cap
-
-module _ {s : List ℕ} where
-  pub valued_none : Valued s 0 0
-  valued_none = record { within = omega arith; low = omega arith; left = refl }
-
-  pub valued_more : {v i w d : ℕ} → Valued s v i → i < length s → d ≡ get_or s i 0 - 48 → w ≡ min (10 * v + d) cap → Valued s w (i + 1)
-  valued_more {v} {i} {w} {d} p h e q =
-      record {
-        within = omega arith;
-        low = omega arith;
-        left =
-            p.left ∙ rw (drop-cons s i 0 h, value_more, add-one, q, e) (sym (cut_after (10 * v + (get_or s i 0 - 48)) (drop (suc i) s)));
-      }
-
-  pub valued_all : {v i : ℕ} → Valued s v i → length s ≤ i → v ≡ min (value_of s) cap
-  unfolding value_after
-  valued_all {v} {i} p h =
-      let z : min (value_after v (drop i s)) cap ≡ v = rw (drop_of_length-le s h) (omega (arith, p.low)) in
-      sym (p.left ∙ z)
-
-pub ruleset valuing = (valued_none, valued_more)
+-- the first digits, and one more
+pub value_next : (ds : List ℕ) (i : ℕ) → i < length ds → value_of (take (i + 1) ds) ≡ 10 * value_of (take i ds) + (get_or ds i 0 - 48)
+value_next ds i h = rw (add-one, take-suc ds i 0 h) (value_more 0 (take i ds) (get_or ds i 0))

@@ -6,10 +6,7 @@ use Rattle.profile.specs.Versions.{newest_rules}
 use Rattle.profile.specs.Script.{read_script}
 use Rattle.profile.specs.Writing.{longest_script, write_script, write_verdict}
 use Rattle.profile.specs.declared.Profile.{Profile}
-use Rattle.level.specs.Place.{level_answer, locate_answer, next_edge_answer}
-use Rattle.level.specs.declared.LevelAnswer.{LevelAnswer}
-use Rattle.level.specs.declared.Located.{Located}
-use Rattle.level.specs.declared.Edge.{Edge}
+use Rattle.level.specs.Place.{LevelAnswer, Located, Edge, level_answer, locate_answer, next_edge_answer}
 use Rattle.holdlist.specs.Text.{decimal, value_of, hex4, refused_line}
 use Rattle.ask.specs.declared.figures.Figures.{Figures}
 use Rattle.ask.specs.Figures.{figures_of}

@@ -1,7 +1,7 @@
 -- The input of the program: a question on its first line, and after that line a script. A question is a letter and, after a space each, its numbers.
 -- Assumes nothing.
 use Rattle.std.specs.Prelude.{ℕ, ◌+◌, List, [], ◌∷◌, Bool, cond, ◌&&◌, length, get_or, take, drop, leb, eqb}
-use Rattle.profile.specs.Lists.{all, chunks}
+use Rattle.std.specs.List.{list_all}
 
 -- where the byte c stands first; the length where it does not stand
 unfoldable pub end_of : ℕ → List ℕ → ℕ
@@ -30,11 +30,8 @@ most_line = 123
 abbrev pub is_digit : ℕ → Bool
 is_digit d = leb 48 d && leb d 57
 
-abbrev pub digit_test : List ℕ → ℕ → List Bool
-digit_test ds i = is_digit (get_or ds i 0) ∷ []
-
 unfoldable pub is_number : List ℕ → Bool
-is_number ds = leb 1 (length ds) && all (chunks (length ds) (digit_test ds))
+is_number ds = leb 1 (length ds) && list_all is_digit ds
 
 -- the letter, and what is behind the space after it: the first number and, behind another space, the second
 abbrev pub letter_of : List ℕ → ℕ

@@ -1,18 +1,17 @@
 // The answer to a question about a script, as text from a slice's first byte on. Each function gives the text's length.
-ghost use Rattle.std.specs.Prelude.{◌≡◌, cond, [], ◌≤◌, length, take};
+ghost use Rattle.std.specs.Prelude.{◌≡◌, ◌≤◌, length, take};
+ghost use Rattle.profile.specs.Refusals.{verdict_of};
 ghost use Rattle.profile.specs.Writing.{longest_script};
-ghost use Rattle.holdlist.specs.Text.{value_of, refused_line};
-ghost use Rattle.ask.specs.Question.{numbers_of, first_of, second_of, alone as aloneLine, with_one, with_two};
-ghost use Rattle.ask.specs.Answer.{accepted_line, word_line, place_line, none_line, figures_line, level_text, locate_text, edge_text, write_text, check_asked, write_asked, level_asked, locate_asked, edge_asked, figures_asked, answer_of, asked};
-ghost use Rattle.ask.specs.Short.{PutsShort};
+ghost use Rattle.level.specs.Place.{level_told, locate_told, edge_told};
+ghost use Rattle.holdlist.specs.Text.{refused_line};
+ghost use Rattle.ask.specs.Answer.{accepted_line, word_line, place_line, none_line, figures_line, level_text, locate_text, edge_text, write_text, asked};
+ghost use Rattle.ask.specs.Short.{profile_text, question_text, PutsShort};
 
 use crate::figures::{Figures, figures_of};
-use crate::question::{
-    after_end, alone, byte_at, end_of, first_number, number_of, second_number, with_one, with_two,
-};
+use crate::question::{ProfileQuestion, Question, after_end, end_of, parse};
 use holdlist::{put_byte, put_bytes, put_decimal, put_hex4, put_refused_line};
-use level::{Edge, LevelAnswer, Located};
-use profile::{Profile, Verdict};
+use level::LinePixel;
+use profile::{Profile, Refusal};
 
 // ---- lines
 
@@ -22,10 +21,11 @@ fn put_accepted_line(out: &mut [u8]) -> usize
     put_bytes(out, 0, b"accepted\n")
 }
 
-fn put_verdict_line(out: &mut [u8], verdict: Verdict) -> usize
-    ensures { PutsShort (refused_line verdict) out.old result out.new }
+// Each answer is of its own type, so each has its own match, with this for its refusal.
+fn put_refusal(out: &mut [u8], refusal: Refusal) -> usize
+    ensures { PutsShort (refused_line (verdict_of refusal)) out.old result out.new }
 {
-    put_refused_line(out, 0, verdict)
+    put_refused_line(out, 0, refusal.verdict())
 }
 
 fn put_word_line(out: &mut [u8], word: u16) -> usize
@@ -33,17 +33,17 @@ fn put_word_line(out: &mut [u8], word: u16) -> usize
 {
     let a = put_bytes(out, 0, b"word ");
     let b = put_hex4(out, a, word);
-    put_byte(out, b, 10)
+    put_byte(out, b, b'\n')
 }
 
-fn put_place_line(out: &mut [u8], line: u64, pixel: u64) -> usize
-    ensures { PutsShort (place_line line pixel) out.old result out.new }
+fn put_place_line(out: &mut [u8], there: LinePixel) -> usize
+    ensures { PutsShort (place_line there.line there.pixel) out.old result out.new }
 {
     let a = put_bytes(out, 0, b"line ");
-    let b = put_decimal(out, a, line);
+    let b = put_decimal(out, a, there.line);
     let c = put_bytes(out, b, b" pixel ");
-    let d = put_decimal(out, c, pixel);
-    put_byte(out, d, 10)
+    let d = put_decimal(out, c, there.pixel);
+    put_byte(out, d, b'\n')
 }
 
 fn put_none_line(out: &mut [u8]) -> usize
@@ -56,48 +56,46 @@ fn put_figures_line(out: &mut [u8], figures: Figures) -> usize
     ensures { PutsShort (figures_line figures) out.old result out.new }
 {
     let a = put_decimal(out, 0, figures.first);
-    let b = put_byte(out, a, 32);
+    let b = put_byte(out, a, b' ');
     let c = put_decimal(out, b, figures.second);
-    let d = put_byte(out, c, 32);
+    let d = put_byte(out, c, b' ');
     let e = put_decimal(out, d, figures.third);
-    let f = put_byte(out, e, 32);
+    let f = put_byte(out, e, b' ');
     let g = put_decimal(out, f, figures.fourth);
-    put_byte(out, g, 10)
+    put_byte(out, g, b'\n')
 }
 
 // ---- what the entry points answer
 
-fn put_level_text(out: &mut [u8], answer: LevelAnswer) -> usize
-    ensures { PutsShort (level_text answer) out.old result out.new }
+#[tactic(auto, using(crate::proofs::Answering::short_refused), unfolding(crate::specs::Answer::level_text))]
+fn put_level_text(out: &mut [u8], answer: Result<u16, Refusal>) -> usize
+    ensures { PutsShort (level_text (level_told answer)) out.old result out.new }
 {
-    let verdict = answer.verdict;
-    if verdict.number != 0 {
-        return put_verdict_line(out, verdict);
+    match answer {
+        Ok(word) => put_word_line(out, word),
+        Err(refusal) => put_refusal(out, refusal),
     }
-    put_word_line(out, answer.word)
 }
 
-fn put_locate_text(out: &mut [u8], answer: Located) -> usize
-    ensures { PutsShort (locate_text answer) out.old result out.new }
+#[tactic(auto, using(crate::proofs::Answering::short_refused), unfolding(crate::specs::Answer::locate_text))]
+fn put_locate_text(out: &mut [u8], answer: Result<LinePixel, Refusal>) -> usize
+    ensures { PutsShort (locate_text (locate_told answer)) out.old result out.new }
 {
-    let verdict = answer.verdict;
-    if verdict.number != 0 {
-        return put_verdict_line(out, verdict);
+    match answer {
+        Ok(there) => put_place_line(out, there),
+        Err(refusal) => put_refusal(out, refusal),
     }
-    put_place_line(out, answer.line, answer.pixel)
 }
 
-fn put_edge_text(out: &mut [u8], answer: Edge) -> usize
-    ensures { PutsShort (edge_text answer) out.old result out.new }
+#[tactic(auto, using(crate::proofs::Answering::short_refused), unfolding(crate::specs::Answer::edge_text))]
+fn put_edge_text(out: &mut [u8], answer: Result<Option<LinePixel>, Refusal>) -> usize
+    ensures { PutsShort (edge_text (edge_told answer)) out.old result out.new }
 {
-    let verdict = answer.verdict;
-    if verdict.number != 0 {
-        return put_verdict_line(out, verdict);
+    match answer {
+        Ok(Some(there)) => put_place_line(out, there),
+        Ok(None) => put_none_line(out),
+        Err(refusal) => put_refusal(out, refusal),
     }
-    if answer.found {
-        return put_place_line(out, answer.line, answer.pixel);
-    }
-    put_none_line(out)
 }
 
 // Room for the longest script.
@@ -113,153 +111,57 @@ fn put_write_text(out: &mut [u8], profile: Profile) -> usize
     ensures { PutsShort (write_text profile) out.old result out.new }
 {
     let mut room = script_room();
-    let written = profile::write(profile, &mut room);
-    let verdict = written.verdict;
-    if verdict.number != 0 {
-        return put_verdict_line(out, verdict);
+    match profile::write(profile, &mut room) {
+        Ok(n) => put_bytes(out, 0, &room[..n]),
+        Err(refusal) => put_refusal(out, refusal),
     }
-    let n = written.length;
-    put_bytes(out, 0, &room[..n])
 }
 
-// ---- of a script: its refusal, or what its profile gives
+// ---- a question's answer
 
-fn put_check(out: &mut [u8], script: &[u8]) -> usize
-    ensures { PutsShort (check_asked script.now) out.old result out.new }
+fn put_profile_text(out: &mut [u8], question: ProfileQuestion, profile: Profile) -> usize
+    ensures { PutsShort (profile_text question profile) out.old result out.new }
 {
-    let answer = profile::read(script);
-    let verdict = answer.verdict;
-    if verdict.number != 0 {
-        return put_verdict_line(out, verdict);
+    match question {
+        ProfileQuestion::Check => put_accepted_line(out),
+        ProfileQuestion::Write => put_write_text(out, profile),
+        ProfileQuestion::Level(line, pixel) => {
+            put_level_text(out, level::level(profile, line, pixel))
+        }
+        ProfileQuestion::Locate(n) => put_locate_text(out, level::locate(profile, n)),
+        ProfileQuestion::Edge(line, pixel) => {
+            put_edge_text(out, level::next_edge(profile, line, pixel))
+        }
     }
-    put_accepted_line(out)
 }
 
-fn put_write(out: &mut [u8], script: &[u8]) -> usize
-    ensures { PutsShort (write_asked script.now) out.old result out.new }
+// Of a script: its refusal, or what its profile gives; or its refusal's figures.
+#[tactic(auto, using(crate::proofs::Answering::of_refused, crate::proofs::Answering::of_accepted))]
+fn put_question(out: &mut [u8], question: Question, script: &[u8]) -> usize
+    ensures { PutsShort (question_text question script.now) out.old result out.new }
 {
-    let answer = profile::read(script);
-    let verdict = answer.verdict;
-    if verdict.number != 0 {
-        return put_verdict_line(out, verdict);
-    }
-    put_write_text(out, answer.profile)
-}
-
-fn put_level(out: &mut [u8], script: &[u8], line: u64, pixel: u64) -> usize
-    ensures { PutsShort (level_asked line pixel script.now) out.old result out.new }
-{
-    let answer = profile::read(script);
-    let verdict = answer.verdict;
-    if verdict.number != 0 {
-        return put_verdict_line(out, verdict);
-    }
-    put_level_text(out, level::level(answer.profile, line, pixel))
-}
-
-fn put_locate(out: &mut [u8], script: &[u8], n: u64) -> usize
-    ensures { PutsShort (locate_asked n script.now) out.old result out.new }
-{
-    let answer = profile::read(script);
-    let verdict = answer.verdict;
-    if verdict.number != 0 {
-        return put_verdict_line(out, verdict);
-    }
-    put_locate_text(out, level::locate(answer.profile, n))
-}
-
-fn put_edge(out: &mut [u8], script: &[u8], line: u64, pixel: u64) -> usize
-    ensures { PutsShort (edge_asked line pixel script.now) out.old result out.new }
-{
-    let answer = profile::read(script);
-    let verdict = answer.verdict;
-    if verdict.number != 0 {
-        return put_verdict_line(out, verdict);
-    }
-    put_edge_text(out, level::next_edge(answer.profile, line, pixel))
-}
-
-// ---- by the line: nothing where it is not right for its letter
-
-fn ask_check(out: &mut [u8], line: &[u8], script: &[u8]) -> usize
-    ensures { PutsShort (cond (aloneLine line.now) (check_asked script.now) []) out.old result out.new }
-{
-    if !alone(line) {
-        return 0;
-    }
-    put_check(out, script)
-}
-
-fn ask_write(out: &mut [u8], line: &[u8], script: &[u8]) -> usize
-    ensures { PutsShort (cond (aloneLine line.now) (write_asked script.now) []) out.old result out.new }
-{
-    if !alone(line) {
-        return 0;
-    }
-    put_write(out, script)
-}
-
-fn ask_level(out: &mut [u8], line: &[u8], script: &[u8]) -> usize
-    ensures { PutsShort (cond (with_two line.now) (level_asked (value_of (first_of line.now)) (value_of (second_of line.now)) script.now) []) out.old result out.new }
-{
-    if !with_two(line) {
-        return 0;
-    }
-    put_level(out, script, first_number(line), second_number(line))
-}
-
-fn ask_locate(out: &mut [u8], line: &[u8], script: &[u8]) -> usize
-    ensures { PutsShort (cond (with_one line.now) (locate_asked (value_of (numbers_of line.now)) script.now) []) out.old result out.new }
-{
-    if !with_one(line) {
-        return 0;
-    }
-    put_locate(out, script, number_of(line))
-}
-
-fn ask_edge(out: &mut [u8], line: &[u8], script: &[u8]) -> usize
-    ensures { PutsShort (cond (with_two line.now) (edge_asked (value_of (first_of line.now)) (value_of (second_of line.now)) script.now) []) out.old result out.new }
-{
-    if !with_two(line) {
-        return 0;
-    }
-    put_edge(out, script, first_number(line), second_number(line))
-}
-
-fn ask_figures(out: &mut [u8], line: &[u8], script: &[u8]) -> usize
-    ensures { PutsShort (cond (aloneLine line.now) (figures_asked script.now) []) out.old result out.new }
-{
-    if !alone(line) {
-        return 0;
-    }
-    put_figures_line(out, figures_of(script))
-}
-
-fn put_question(out: &mut [u8], line: &[u8], script: &[u8]) -> usize
-    ensures { PutsShort (answer_of line.now script.now) out.old result out.new }
-{
-    let letter = byte_at(line, 0);
-    match letter {
-        b'C' => ask_check(out, line, script),
-        b'W' => ask_write(out, line, script),
-        b'L' => ask_level(out, line, script),
-        b'N' => ask_locate(out, line, script),
-        b'E' => ask_edge(out, line, script),
-        b'F' => ask_figures(out, line, script),
-        _ => 0,
+    match question {
+        Question::OfProfile(question) => match profile::read(script) {
+            Ok(profile) => put_profile_text(out, question, profile),
+            Err(refusal) => put_refusal(out, refusal),
+        },
+        Question::Figures => put_figures_line(out, figures_of(script)),
     }
 }
 
-// The question is the first line, the script what follows it.
+// The question is the first line, the script what follows it; nothing is put where the line is no question.
 fn put_asked(out: &mut [u8], input: &[u8]) -> usize
     ensures { PutsShort (asked input.now) out.old result out.new }
 {
-    let end = end_of(input, 10);
+    let end = end_of(input, b'\n');
     if 123 < end {
         return 0;
     }
     let from = after_end(input.len(), end);
-    put_question(out, &input[..end], &input[from..])
+    match parse(&input[..end]) {
+        Some(question) => put_question(out, question, &input[from..]),
+        None => 0,
+    }
 }
 
 // Puts all that is printed for an input, and gives its length.

@@ -1,15 +1,19 @@
 // The figures of a refusal: the four numbers that its sentence tells besides those that are printed.
-ghost use Rattle.std.specs.Prelude.{◌≡◌, cond, ◌+◌, ◌-◌, ◌*◌, ◌<◌, min, ltb, length};
+ghost use Rattle.std.specs.Prelude.{◌≡◌, cond, ◌+◌, ◌*◌, ◌<◌, ltb, length};
 ghost use Rattle.profile.specs.Bytes.{number_at};
-ghost use Rattle.ask.specs.Figures.{four_figures, figures, record_figures, run_figures, toggle_of, toggle_figures, region_figures, field_figures, profile_figures, figures_by, figures_of};
+ghost use Rattle.profile.specs.Values.{empty_profile, refused_toggle};
+ghost use Rattle.profile.specs.Script.{records};
+ghost use Rattle.profile.specs.Refusals.{verdict_of};
+ghost use Rattle.profile.specs.Geometry.{first_line, sequence_at, gate_of, gate_length, shutter_of};
+ghost use Rattle.ask.specs.Figures.{four_figures, figures, record_figures, run_figures, toggle_of, toggle_figures, figures_by, figures_of};
 
 use crate::question::byte_at;
 use profile::{
-    Field, Pattern, Profile, Tables, Verdict, gate_length, gate_of, pattern_of, read_records,
-    region_at, region_size, rows_of, sequence_at, shutter_of,
+    Field, Pattern, Profile, Refusal, Tables, empty, gate_length, gate_of, pattern_of, read,
+    read_records, region_at, region_size, rows_of, sequence_at, shutter_of,
 };
 
-#[derive(Clone, Copy)]
+#[derive(Clone, Copy, Default)]
 pub struct Figures {
     pub first: u64,
     pub second: u64,
@@ -24,8 +28,7 @@ fn two(first: u64, second: u64) -> Figures
     Figures {
         first,
         second,
-        third: 0,
-        fourth: 0,
+        ..Figures::default()
     }
 }
 
@@ -34,39 +37,21 @@ fn three(first: u16, second: u16, third: u16) -> Figures
     ensures { result ≡ figures first second third }
 {
     Figures {
-        first: first as u64,
-        second: second as u64,
-        third: third as u64,
+        first: u64::from(first),
+        second: u64::from(second),
+        third: u64::from(third),
         fourth: 0,
-    }
-}
-
-// Four numbers of a profile.
-fn four(first: u16, second: u16, third: u16, fourth: u16) -> Figures
-    ensures { result ≡ four_figures first second third fourth }
-{
-    Figures {
-        first: first as u64,
-        second: second as u64,
-        third: third as u64,
-        fourth: fourth as u64,
     }
 }
 
 // ---- of the record at a place
 
-fn wide(x: u8) -> u64
-    ensures { (result ≡ x) × (result < 256) }
-{
-    x as u64
-}
-
-// The number of two bytes.
-fn number_at(s: &[u8], at: usize) -> u64
+// The number of two bytes; a byte that is not there is 0.
+fn number_at(s: &[u8], at: usize) -> u16
     requires { at < 65536 }
-    ensures { (result ≡ number_at s.now at) × (result < 65536) }
+    ensures { result ≡ number_at s.now at }
 {
-    wide(byte_at(s, at)) + 256 * wide(byte_at(s, at + 1))
+    u16::from_le_bytes([byte_at(s, at), byte_at(s, at + 1)])
 }
 
 // How many bytes a record needs: its head, and its body where the head is whole.
@@ -76,28 +61,22 @@ fn needed(rest: &[u8]) -> u64
     if rest.len() < 4 {
         return 4;
     }
-    4 + number_at(rest, 0)
+    4 + u64::from(number_at(rest, 0))
 }
 
-// 2 to 5, of the script from the record on.
-fn record_figures(number: u16, rest: &[u8]) -> Figures
-    ensures { result ≡ record_figures number rest.now }
+// 2, of the script from the record on.
+#[tactic(auto, unfolding(crate::specs::Figures::record_figures))]
+fn cut_figures(rest: &[u8]) -> Figures
+    ensures { result ≡ record_figures 2 rest.now }
 {
-    if number == 2 {
-        return two(rest.len() as u64, needed(rest));
-    }
-    two(number_at(rest, 2), number_at(rest, 0))
+    two(rest.len() as u64, needed(rest))
 }
 
-// Where a script's rest begins: at a place, or at the end where that is past it.
-fn rest_from(script: &[u8], place: u64) -> usize
-    ensures { result ≡ min place (length script.now) }
+// 3 to 5, of the script from the record on.
+fn head_figures(rest: &[u8]) -> Figures
+    ensures { result ≡ figures (number_at rest.now 2) (number_at rest.now 0) 0 }
 {
-    if place < (script.len() as u64) {
-        place as usize
-    } else {
-        script.len()
-    }
+    three(number_at(rest, 2), number_at(rest, 0), 0)
 }
 
 // ---- of a region
@@ -106,139 +85,150 @@ fn rest_from(script: &[u8], place: u64) -> usize
 fn run_end(start: u16, times: u16, length: u16) -> u64
     ensures { result ≡ start + times * length }
 {
-    (start as u64) + (times as u64) * (length as u64)
+    u64::from(start) + u64::from(times) * u64::from(length)
 }
 
 // 13.
+#[tactic(auto, unfolding(crate::specs::Figures::run_figures))]
 fn run_figures(tables: Tables, field: Field, i: usize) -> Figures
     ensures { result ≡ run_figures tables field i }
 {
     let sequence = sequence_at(tables, field, i);
-    let registers = tables.registers;
-    let pattern = pattern_of(registers, sequence.pattern);
-    let size = region_size(tables, field, i);
-    two(run_end(sequence.start, sequence.odd, pattern.length), size)
-}
-
-// A number less 1; 0 for 0.
-fn less_one(x: u16) -> u16
-    ensures { result ≡ x - 1 }
-{
-    if x == 0 { 0 } else { x - 1 }
+    let pattern = pattern_of(tables.registers, sequence.pattern);
+    two(
+        run_end(sequence.start, sequence.odd, pattern.length),
+        region_size(tables, field, i),
+    )
 }
 
 // Toggle j of output k, both counted from 1, where 0 counts as 1; 0 where there is none.
 fn toggle_of(pattern: Pattern, k: u16, j: u16) -> u16
     ensures { result ≡ toggle_of pattern k j }
 {
-    let output = less_one(k) as usize;
-    let toggle = less_one(j) as usize;
-    if 3 <= toggle {
-        return 0;
-    }
-    if 6 <= output {
-        return 0;
-    }
-    let toggles = pattern.toggles;
-    let rows = rows_of(toggles);
-    let row = rows[output];
-    row[toggle]
+    let output = usize::from(k.saturating_sub(1));
+    let toggle = usize::from(j.saturating_sub(1));
+    let rows = rows_of(pattern.toggles);
+    let row = rows.get(output).copied().unwrap_or([0; 3]);
+    row.get(toggle).copied().unwrap_or(0)
 }
 
-// 10.
-fn toggle_figures(tables: Tables, field: Field, verdict: Verdict) -> Figures
-    ensures { result ≡ toggle_figures tables field verdict }
+// 10, of output k and its toggle j.
+#[tactic(auto, unfolding(crate::specs::Figures::toggle_figures))]
+fn toggle_figures(tables: Tables, field: Field, i: usize, k: u16, j: u16) -> Figures
+    ensures { result ≡ toggle_figures tables field (refused_toggle i k j) }
 {
-    let sequence = sequence_at(tables, field, verdict.place as usize);
-    let registers = tables.registers;
-    let pattern = pattern_of(registers, sequence.pattern);
-    let before = less_one(verdict.toggle);
-    let first = toggle_of(pattern, verdict.output, before);
-    let second = toggle_of(pattern, verdict.output, verdict.toggle);
-    three(first, second, sequence.pattern)
+    let number = sequence_at(tables, field, i).pattern;
+    let pattern = pattern_of(tables.registers, number);
+    three(
+        toggle_of(pattern, k, j.saturating_sub(1)),
+        toggle_of(pattern, k, j),
+        number,
+    )
 }
 
-// 7 to 13 but 10, at region i.
-fn region_figures(tables: Tables, field: Field, number: u16, i: usize) -> Figures
-    ensures { result ≡ region_figures tables field number i }
+// 7.
+fn start_figures(field: Field, i: usize) -> Figures
+    ensures { result ≡ figures (first_line field i) field.lines 0 }
 {
-    let region = region_at(field, i);
+    three(region_at(field, i).first, field.lines, 0)
+}
+
+// 12.
+fn count_figures(tables: Tables, field: Field, i: usize) -> Figures
+    ensures { result ≡ figures (sequence_at tables field i).odd (sequence_at tables field i).even 0 }
+{
     let sequence = sequence_at(tables, field, i);
-    match number {
-        7 => two(region.first as u64, field.lines as u64),
-        8 => two(region.sequence as u64, 0),
-        12 => two(sequence.odd as u64, sequence.even as u64),
-        13 => run_figures(tables, field, i),
-        _ => two(sequence.pattern as u64, sequence.mask as u64),
-    }
+    three(sequence.odd, sequence.even, 0)
+}
+
+// 9 and 11.
+fn pattern_figures(tables: Tables, field: Field, i: usize) -> Figures
+    ensures { result ≡ figures (sequence_at tables field i).pattern (sequence_at tables field i).mask 0 }
+{
+    let sequence = sequence_at(tables, field, i);
+    three(sequence.pattern, sequence.mask, 0)
 }
 
 // ---- of the field
 
-// 15, at gate i.
-fn gate_figures(tables: Tables, field: Field, i: usize) -> Figures
-    ensures { result ≡ field_figures tables field 15 i }
+// 14.
+fn line_figures(field: Field) -> Figures
+    ensures { result ≡ four_figures field.gate field.gate2 field.lines field.second }
 {
-    let gate = gate_of(tables, i);
-    let length = gate_length(tables, field);
-    three(gate.toggle1, gate.toggle2, length)
+    Figures {
+        first: u64::from(field.gate),
+        second: u64::from(field.gate2),
+        third: u64::from(field.lines),
+        fourth: u64::from(field.second),
+    }
 }
 
-// 14 to 17, at gate or shutter i.
-fn field_figures(tables: Tables, field: Field, number: u16, i: usize) -> Figures
-    ensures { result ≡ field_figures tables field number i }
+// 15.
+fn gate_figures(tables: Tables, field: Field, i: usize) -> Figures
+    ensures { result ≡ figures (gate_of tables i).toggle1 (gate_of tables i).toggle2 (gate_length tables field) }
+{
+    let gate = gate_of(tables, i);
+    three(gate.toggle1, gate.toggle2, gate_length(tables, field))
+}
+
+// 16.
+fn subck_figures(tables: Tables) -> Figures
+    ensures { result ≡ figures tables.subck.toggle1 tables.subck.toggle2 tables.subck.suppressed }
 {
     let subck = tables.subck;
+    three(subck.toggle1, subck.toggle2, subck.suppressed)
+}
+
+// 17.
+fn shutter_figures(tables: Tables, i: usize) -> Figures
+    ensures { result ≡ figures (shutter_of tables i).on_line (shutter_of tables i).off_line 0 }
+{
     let shutter = shutter_of(tables, i);
-    match number {
-        14 => four(field.gate, field.gate2, field.lines, field.second),
-        15 => gate_figures(tables, field, i),
-        16 => three(subck.toggle1, subck.toggle2, subck.suppressed),
-        _ => two(shutter.on_line as u64, shutter.off_line as u64),
-    }
+    three(shutter.on_line, shutter.off_line, 0)
 }
 
 // ---- of a script
 
-// 7 to 17, of a profile.
-fn profile_figures(profile: Profile, verdict: Verdict) -> Figures
-    ensures { result ≡ profile_figures profile verdict }
+// What the records give; the empty profile where they are at fault.
+fn profile_of(script: &[u8]) -> Profile
+    ensures { result ≡ (records 0 0 script.now empty_profile).profile }
 {
-    let tables = profile.tables;
-    let field = profile.field;
-    if verdict.number == 10 {
-        return toggle_figures(tables, field, verdict);
-    }
-    if verdict.number <= 13 {
-        return region_figures(tables, field, verdict.number, verdict.place as usize);
-    }
-    field_figures(tables, field, verdict.number, verdict.place as usize)
+    read_records(script).unwrap_or(empty())
 }
 
-// Of a script and its verdict.
-fn figures_by(script: &[u8], verdict: Verdict) -> Figures
-    ensures { result ≡ figures_by script.now verdict }
+// Of a script and why it is refused. Reading names no refusal after 17; they are told as 17 is.
+#[tactic(auto, using(profile::proofs::Laws::rest_dropped), unfolding(crate::specs::Figures::figures_by, crate::specs::Figures::record_figures, crate::specs::Figures::region_figures, crate::specs::Figures::field_figures))]
+fn figures_by(script: &[u8], refusal: Refusal) -> Figures
+    ensures { result ≡ figures_by script.now (verdict_of refusal) }
 {
-    if verdict.number <= 1 {
-        return two(0, 0);
+    let Profile { tables, field } = profile_of(script);
+    match refusal {
+        Refusal::TooLong | Refusal::NoField => Figures::default(),
+        Refusal::Cut(at) => cut_figures(&script[at.min(script.len())..]),
+        Refusal::UnknownKind(at) | Refusal::WrongLength(at) | Refusal::OutOfRange(at) => {
+            head_figures(&script[at.min(script.len())..])
+        }
+        Refusal::RegionStart(i) => start_figures(field, i),
+        Refusal::NoSequence(i) => three(region_at(field, i).sequence, 0, 0),
+        Refusal::NoPattern(i) | Refusal::Mask(i) => pattern_figures(tables, field, i),
+        Refusal::ToggleOrder(i, output, toggle) => toggle_figures(tables, field, i, output, toggle),
+        Refusal::Counts(i) => count_figures(tables, field, i),
+        Refusal::RunEnd(i) => run_figures(tables, field, i),
+        Refusal::GateLine => line_figures(field),
+        Refusal::GatePulse(i) => gate_figures(tables, field, i),
+        Refusal::SubckPulse => subck_figures(tables),
+        Refusal::ShutterSpan(i) | Refusal::NoRoom(i) => shutter_figures(tables, i),
+        Refusal::NoPixel | Refusal::NoStep => shutter_figures(tables, 0),
     }
-    if verdict.number <= 5 {
-        let from = rest_from(script, verdict.place);
-        return record_figures(verdict.number, &script[from..]);
-    }
-    if verdict.number <= 6 {
-        return two(0, 0);
-    }
-    let answer = read_records(script);
-    let profile = answer.profile;
-    profile_figures(profile, verdict)
 }
 
 // The figures of what reading a script answers.
+#[tactic(auto, unfolding(crate::specs::Figures::figures_of, crate::specs::Figures::figures_by))]
 pub(crate) fn figures_of(script: &[u8]) -> Figures
     ensures { result ≡ figures_of script.now }
 {
-    let answer = profile::read(script);
-    let verdict = answer.verdict;
-    figures_by(script, verdict)
+    match read(script) {
+        Ok(_) => Figures::default(),
+        Err(refusal) => figures_by(script, refusal),
+    }
 }

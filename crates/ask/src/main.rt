@@ -8,31 +8,18 @@ mod question;
 ghost use Rattle.std.specs.Prelude.{◌≡◌, length};
 
 use crate::answers::put_answer;
-use standard_input::Input;
 use std::io::ErrorKind;
 use std::process::ExitCode;
 
 // The status, as a shell tells it, of a program that the signal of a closed pipe ended.
 const CLOSED_PIPE: u8 = 141;
 
-// A question of 123 bytes, its end, and one byte more than the longest script, so that a longer one is seen to be longer.
-fn input_room() -> [u8; 16509]
-    ensures { 16509 ≡ length result }
-{
-    [0; 16509]
-}
-
-// Room for the longest answer, the longest script.
-fn text_room() -> [u8; 1400]
-    ensures { 1400 ≡ length result }
-{
-    [0; 1400]
-}
-
-// Every question that there is has an answer. A write that fails is said on standard error; where nobody listens any more, nothing is said.
+// As in `booth`, with other sentences: what both share would be handed them all. Every question that there is has an answer. A write that fails is said on standard error; where nobody listens any more, nothing is said.
 fn print_answer(rt: &(impl Print + Eprint), input: &[u8]) -> ExitCode {
-    let mut text = text_room();
+    // Room for the longest answer, the longest script.
+    let mut text = [0; 1400];
     let n = put_answer(input, &mut text);
+    // no text, no question: the definition prints nothing exactly where the line is none
     if n == 0 {
         let _ = rt.eprintln("ask: no such question");
         return ExitCode::SUCCESS;
@@ -48,10 +35,11 @@ fn print_answer(rt: &(impl Print + Eprint), input: &[u8]) -> ExitCode {
 }
 
 fn main(rt: HostRuntime) -> ExitCode {
-    let mut input = input_room();
+    // A question of 123 bytes, its end, and one byte more than the longest script, so that a longer one is seen to be longer.
+    let mut input = [0; 16509];
     match standard_input::read_all(&rt, &mut input) {
-        Input::Bytes(n) => print_answer(&rt, &input[..n]),
-        Input::Failed => {
+        Ok(n) => print_answer(&rt, &input[..n]),
+        Err(_) => {
             let _ = rt.eprintln("ask: cannot read standard input");
             ExitCode::SUCCESS
         }

@@ -1,77 +1,41 @@
 // What the program booth prints for a script, its list made by one of the two engines.
-ghost use Rattle.std.specs.Prelude.{◌≡◌, ◌≤◌, length};
+ghost use Rattle.std.specs.Prelude.{◌≤◌, length};
 
-use holdlist::Compiled;
-use profile::Profile;
+use holdlist::ListSize;
+use profile::{Profile, Refusal};
 
-// Room for 4,096 steps, and for their text.
-fn count_room() -> [u32; 4096]
-    ensures { 4096 ≡ length result }
-{
-    [0; 4096]
-}
-
-fn word_room() -> [u16; 4096]
-    ensures { 4096 ≡ length result }
-{
-    [0; 4096]
-}
-
-fn text_room() -> [u8; 65600]
-    ensures { 65600 ≡ length result }
-{
-    [0; 65600]
-}
-
-// A profile's list by one of the engines.
-fn compile_by(
-    edges: bool,
-    profile: Profile,
-    counts: &mut [u32; 4096],
-    words: &mut [u16; 4096],
-) -> Compiled {
-    if edges {
-        return holdlist::compile_edges(profile, counts, words);
-    }
-    holdlist::compile(profile, counts, words)
-}
-
-// It and its answer as text.
-fn put_compiled(
-    out: &mut [u8],
-    compiled: Compiled,
-    counts: &[u32; 4096],
-    words: &[u16; 4096],
-) -> usize
+// A profile's list by an engine, as text; room for 4,096 steps. An engine is handed on through three functions, and each asks that it can be called.
+fn put_list<F>(compile: F, profile: Profile, out: &mut [u8]) -> usize
+where
+    F: FnOnce(Profile, &mut [u32], &mut [u16]) -> Result<ListSize, Refusal>,
+    requires { F.IsAlwaysCallable compile }
     ensures { result ≤ length out.new }
 {
-    holdlist::put_printed(out, 0, compiled, counts, words)
-}
-
-fn put_list(edges: bool, profile: Profile, out: &mut [u8]) -> usize
-    ensures { result ≤ length out.new }
-{
-    let mut counts = count_room();
-    let mut words = word_room();
-    let compiled = compile_by(edges, profile, &mut counts, &mut words);
-    put_compiled(out, compiled, &counts, &words)
+    let mut counts = [0; 4096];
+    let mut words = [0; 4096];
+    let compiled = compile(profile, &mut counts, &mut words);
+    holdlist::put_printed(out, 0, compiled.map_err(Refusal::verdict), &counts, &words)
 }
 
 // The list of a script, or its refusal.
-fn put_answer(edges: bool, script: &[u8], out: &mut [u8]) -> usize
+fn put_answer<F>(compile: F, script: &[u8], out: &mut [u8]) -> usize
+where
+    F: FnOnce(Profile, &mut [u32], &mut [u16]) -> Result<ListSize, Refusal>,
+    requires { F.IsAlwaysCallable compile }
     ensures { result ≤ length out.new }
 {
-    let answer = profile::read(script);
-    let verdict = answer.verdict;
-    if verdict.number != 0 {
-        return holdlist::put_refused_line(out, 0, verdict);
+    match profile::read(script) {
+        Ok(profile) => put_list(compile, profile, out),
+        Err(refusal) => holdlist::put_refused_line(out, 0, refusal.verdict()),
     }
-    let profile = answer.profile;
-    put_list(edges, profile, out)
 }
 
-pub(crate) fn print_list(rt: &impl Print, edges: bool, script: &[u8]) {
-    let mut text = text_room();
-    let n = put_answer(edges, script, &mut text);
+pub(crate) fn print_list<F>(rt: &impl Print, compile: F, script: &[u8])
+where
+    F: FnOnce(Profile, &mut [u32], &mut [u16]) -> Result<ListSize, Refusal>,
+    requires { F.IsAlwaysCallable compile }
+{
+    let mut text = [0; 65600];
+    let n = put_answer(compile, script, &mut text);
     let _ = rt.write_all(&text[..n]);
 }

@@ -13,6 +13,7 @@ mod uploads;
 
 ghost use Rattle.std.specs.Prelude.{◌+◌, ◌≤◌, ◌<◌, length};
 
+use holdlist::{compile, compile_edges};
 use level::{Line, Mask, Pulse, Run, Span};
 use profile::pattern_of;
 use std::io::Read;
@@ -22,22 +23,13 @@ fn place_after(k: usize, c: u8) -> usize
     requires { k < 240 }
     ensures { result < 240 }
 {
-    if 238 < k {
-        return k;
-    }
-    if c < b'0' { k + 1 } else { k }
+    if k < 239 && c < b'0' { k + 1 } else { k }
 }
 
 // A number with a further digit; any other byte, and a digit too many, leaves it.
 fn number_after(x: u16, c: u8) -> u16 {
-    if c < b'0' {
-        return x;
-    }
-    if b'9' < c {
-        return x;
-    }
-    if x < 6553 {
-        return x * 10 + ((c - b'0') as u16);
+    if c.is_ascii_digit() && x < 6553 {
+        return x * 10 + u16::from(c - b'0');
     }
     x
 }
@@ -46,27 +38,23 @@ fn number_after(x: u16, c: u8) -> u16 {
 fn numbers(text: &[u8]) -> [u16; 240] {
     let mut n = [0u16; 240];
     let mut k: usize = 0;
-    let mut i: usize = 0;
-    while i < text.len() {
-        k = place_after(k, text[i]);
-        n[k] = number_after(n[k], text[i]);
-        i += 1;
+    for c in text {
+        k = place_after(k, *c);
+        n[k] = number_after(n[k], *c);
     }
     n
 }
 
-fn pulse_at(n: [u16; 240], at: usize) -> Pulse
+fn pulse_at(n: &[u16; 240], at: usize) -> Pulse
     requires { at < 200 }
 {
     Pulse {
-        acts: n[at] == 1,
         level: n[at + 1],
-        toggle1: n[at + 2],
-        toggle2: n[at + 3],
+        toggles: (n[at] == 1).then_some((n[at + 2], n[at + 3])),
     }
 }
 
-fn span_at(n: [u16; 240], at: usize) -> Span
+fn span_at(n: &[u16; 240], at: usize) -> Span
     requires { at < 200 }
 {
     Span {
@@ -76,15 +64,11 @@ fn span_at(n: [u16; 240], at: usize) -> Span
     }
 }
 
-fn mask_of(on: bool, freeze: u16, resume: u16) -> Mask {
-    Mask {
-        on: on,
-        freeze: freeze,
-        resume: resume,
-    }
+fn mask_of(on: bool, freeze: u16, resume: u16) -> Option<Mask> {
+    on.then_some(Mask { freeze, resume })
 }
 
-// How V1 to V6 run in a mode by the newest rules, and the pixels of the region before a line that count.
+// How V1 to V6 run in a mode, of which the text tells the number, by the newest rules; and below the pixels of the region before a line that count.
 fn run_of(mode: u16) -> Run {
     if mode == 2 {
         Run::Multiplied
@@ -98,22 +82,21 @@ fn origin_of(mode: u16, before: u32) -> u32 {
 }
 
 // Line i: its start levels and its place in the region differ from line to line.
-fn line_from(n: [u16; 240], i: u64) -> Line
+fn line_from(n: &[u16; 240], i: u64) -> Line
     requires { i < 4095 }
 {
-    let mut pattern = pattern_of(n, 0);
+    let mut pattern = pattern_of(*n, 0);
     pattern.levels = (pattern.levels % 64 + ((i % 64) as u16)) % 64;
     Line {
         length: n[48],
         run: run_of(n[49]),
-        pattern: pattern,
+        pattern,
         start: n[50],
         origin: origin_of(n[49], (i * 4095) as u32),
         repetitions: n[51],
         mask1: mask_of(n[52] % 2 == 1, pattern.freeze1, pattern.resume1),
         mask2: mask_of(n[52] / 2 % 2 == 1, pattern.freeze2, pattern.resume2),
-        second_acts: n[53] == 1,
-        second: pattern_of(n, 1),
+        second: (n[53] == 1).then_some(pattern_of(*n, 1)),
         gates: [
             pulse_at(n, 54),
             pulse_at(n, 58),
@@ -132,32 +115,28 @@ fn word_term(word: u16, j: usize) -> u64
     requires { j < 4095 }
     ensures { result ≤ 268365825 }
 {
-    (word as u64) * (j as u64 + 1)
+    u64::from(word) * (j as u64 + 1)
 }
 
 // The checksum of line i.
-fn line_sum(n: [u16; 240], i: u64) -> u64
+fn line_sum(n: &[u16; 240], i: u64) -> u64
     requires { i < 4095 }
     ensures { result ≤ 1098958053375 }
 {
     let mut out = [0u16; 4095];
     level::fill(line_from(n, i), &mut out);
     let mut sum: u64 = 0;
-    let mut j: usize = 0;
-    while j < 4095 {
-        sum += word_term(out[j], j);
-        j += 1;
+    for (j, word) in out.iter().enumerate() {
+        sum += word_term(*word, j);
     }
     sum
 }
 
 // The checksum of all lines.
-fn total(n: [u16; 240]) -> u64 {
+fn total(n: &[u16; 240]) -> u64 {
     let mut sum: u64 = 0;
-    let mut i: u64 = 0;
-    while i < 4095 {
+    for i in 0..4095 {
         sum += line_sum(n, i);
-        i += 1;
     }
     sum
 }
@@ -168,24 +147,29 @@ fn print_sum(rt: &impl Print, sum: u64) {
 
 // What the first byte asks for.
 fn answer(rt: &impl Print, text: &[u8]) {
-    if text.len() == 0 {
+    let Some((first, script)) = text.split_first() else {
         return;
-    }
-    match text[0] {
-        b'P' => lists::print_list(rt, false, &text[1..]),
-        b'E' => lists::print_list(rt, true, &text[1..]),
-        b'N' => print_sum(rt, places::places_sum(&text[1..])),
-        b'L' => print_sum(rt, places::levels_sum(&text[1..])),
-        b'C' => print_sum(rt, places::checks_sum(&text[1..])),
-        b'R' => print_sum(rt, uploads::reads_sum(&text[1..])),
-        b'U' => print_sum(rt, uploads::uploads_sum(&text[1..], 16384)),
-        b'S' => print_sum(rt, uploads::uploads_sum(&text[1..], 64)),
-        b'B' => print_sum(rt, uploads::uploads_sum(&text[1..], 1)),
-        _ => print_sum(rt, total(numbers(text))),
+    };
+    match *first {
+        b'P' => lists::print_list(rt, |p, counts, words| compile(p, counts, words), script),
+        b'E' => lists::print_list(
+            rt,
+            |p, counts, words| compile_edges(p, counts, words),
+            script,
+        ),
+        b'N' => print_sum(rt, places::places_sum(script)),
+        b'L' => print_sum(rt, places::levels_sum(script)),
+        b'C' => print_sum(rt, places::checks_sum(script)),
+        b'R' => print_sum(rt, uploads::reads_sum(script)),
+        b'U' => print_sum(rt, uploads::uploads_sum(script, 16384)),
+        b'S' => print_sum(rt, uploads::uploads_sum(script, 64)),
+        b'B' => print_sum(rt, uploads::uploads_sum(script, 1)),
+        _ => print_sum(rt, total(&numbers(text))),
     }
 }
 
 // Reads until the input ends, a read fails or the room is full.
+// A while loop: it goes on by as many bytes as came, and what came before a read that fails is kept.
 fn read_full(rt: &impl Input, room: &mut [u8]) -> usize
     ensures { result ≤ length room.old }
 {

@@ -6,26 +6,11 @@ ghost use Rattle.profile.specs.Versions.{newest_rules};
 ghost use Rattle.holdlist.specs.Prints.{Prints};
 ghost use Rattle.holdlist.specs.Text.{printed};
 
-use standard_input::Input;
 use std::io::ErrorKind;
 use std::process::ExitCode;
 
 // The status, as a shell tells it, of a program that the signal of a closed pipe ended.
 const CLOSED_PIPE: u8 = 141;
-
-// One byte more than the longest script, so that a longer one is seen to be longer.
-fn script_room() -> [u8; 16385]
-    ensures { 16385 ≡ length result }
-{
-    [0; 16385]
-}
-
-// Room for 4,096 lines of at most 16 bytes, and a head line of at most 55.
-fn text_room() -> [u8; 65600]
-    ensures { 65600 ≡ length result }
-{
-    [0; 65600]
-}
 
 // Puts what is printed for a script by the newest rules, and gives its length.
 fn put_answer(script: &[u8], out: &mut [u8]) -> usize
@@ -37,9 +22,10 @@ fn put_answer(script: &[u8], out: &mut [u8]) -> usize
     holdlist::put_text_in(out, 0, profile::newest_rules(), script)
 }
 
-// Prints the answer to a script. A write that fails is said on standard error; where nobody listens any more, nothing is said.
+// Prints the answer to a script. As in `ask`, with other sentences: what both share would be handed them all. A write that fails is said on standard error; where nobody listens any more, nothing is said.
 fn print_answer(rt: &(impl Print + Eprint), script: &[u8]) -> ExitCode {
-    let mut text = text_room();
+    // Room for 4,096 lines of at most 16 bytes, and a head line of at most 55.
+    let mut text = [0; 65600];
     let n = put_answer(script, &mut text);
     match rt.write_all(&text[..n]) {
         Ok(()) => ExitCode::SUCCESS,
@@ -52,10 +38,11 @@ fn print_answer(rt: &(impl Print + Eprint), script: &[u8]) -> ExitCode {
 }
 
 fn main(rt: HostRuntime) -> ExitCode {
-    let mut script = script_room();
+    // One byte more than the longest script, so that a longer one is seen to be longer.
+    let mut script = [0; 16385];
     match standard_input::read_all(&rt, &mut script) {
-        Input::Bytes(n) => print_answer(&rt, &script[..n]),
-        Input::Failed => {
+        Ok(n) => print_answer(&rt, &script[..n]),
+        Err(_) => {
             let _ = rt.eprintln("booth: cannot read standard input");
             ExitCode::SUCCESS
         }

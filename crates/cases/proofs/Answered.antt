@@ -1,36 +1,98 @@
 -- What the drivers put is what the definitions say: each law joins what an entry point ensures to the text of its kind.
 -- Assumes nothing.
-use Prim.Native.Nat.{ℕ, ◌+◌, ◌*◌, ◌≤◌}
-use native.Mathlib.Omega.{arith}
-use mathlib.Core.Path.{◌≡◌}
-use mathlib.Core.List.{List}
-use lib.ListN.{length, take, drop, length-take}
-use lib.Seq.{length-take-le}
+use Prim.Native.Nat.{ℕ, ◌+◌, ◌*◌}
+use mathlib.Core.Path.{◌≡◌, refl, sym, ap, ◌∙◌}
+use mathlib.Core.List.{List, [], ◌∷◌, ◌++◌}
+use lib.ListN.{length}
+use Rattle.std.specs.Prelude.{Option, Some, None, Result, Ok, Err}
+use Rattle.std.proofs.Common.{append_assoc, append-nil}
+use Rattle.std.specs.Result.{result_unwrap_or}
+use Rattle.profile.specs.Lists.{chunks}
+use Rattle.profile.specs.Values.{empty_profile}
+use Rattle.profile.specs.Refusals.{verdict_in, read_told, write_told}
 use Rattle.profile.specs.Versions.{newest_rules}
-use Rattle.profile.specs.Rules.{check_profile}
-use Rattle.profile.specs.Script.{read_script}
 use Rattle.profile.specs.Writing.{write_answer, write_leaves}
 use Rattle.profile.specs.declared.Profile.{Profile}
 use Rattle.profile.specs.declared.Ruleset.{Ruleset}
-use Rattle.profile.specs.declared.Written.{Written}
-use Rattle.level.specs.Place.{level_answer, locate_answer, next_edge_answer}
-use Rattle.holdlist.specs.Compile.{Compiles}
-use Rattle.holdlist.specs.Play.{play_answer}
-use Rattle.holdlist.specs.Text.{printed}
-use Rattle.holdlist.specs.declared.Compiled.{Compiled}
-use Rattle.cases.specs.Raw.{eight_at, numbers_from, fours_from, raw_length, version_length, versioned_length, rules_at, raw_profile}
-use Rattle.cases.specs.Kinds.{verdict_text, read_text, chunked_text, stated_text, level_text, edge_text, locate_text, write_text, write_of, compile_text, compile_of, compile_lines, length_at, play_text, play_lines, lines_of}
+use Rattle.profile.specs.declared.Verdict.{Verdict}
+use Rattle.profile.specs.declared.refusal.Refusal.{Refusal}
+use Rattle.level.specs.Place.{Located, level_told, locate_told, edge_told}
+use Rattle.level.specs.declared.LinePixel.{LinePixel}
+use Rattle.holdlist.specs.Compile.{Compiles, compile_told}
+use Rattle.holdlist.specs.Play.{play_told, play_answer}
+use Rattle.holdlist.specs.declared.ListSize.{ListSize}
+use Rattle.cases.specs.Raw.{eight_at, numbers_from, fours_from, raw_length, versioned_length, rules_at, raw_profile}
+use Rattle.cases.specs.Answer.{after, head_text, verdict_line, joined_line, hex_line, profile_line}
+use Rattle.cases.specs.Kinds.{verdict_text, verdict_with, verdict_with_two, verdict_with_three, edge_numbers, read_text, level_text, edge_text, locate_text, write_text, write_of, compile_text, compile_of, compile_lines, play_text, play_lines}
 
-pub write_told :
-    (p : Profile) (s s' : List ℕ) (r : Written) → r ≡ write_answer newest_rules p (length s) → s' ≡ write_leaves newest_rules p s → write_text r s' ≡ write_of p s
-unfolding write_of
-write_told p s s' r e l = rw (e, l)
+-- ---- the line of an answer
 
-pub compile_told :
-    {rules : Ruleset} {p : Profile} {cs ws cs' ws' : List ℕ} {r : Compiled} → Compiles rules p cs ws r cs' ws' →
-    compile_text r cs' ws' ≡ compile_of rules p cs ws
-unfolding compile_of
-compile_told c = rw (c.answer, c.counts, c.words)
+before : {a b : List ℕ} (c : List ℕ) → a ≡ b → a ++ c ≡ b ++ c
+before c e = ap (λ (xs : List ℕ). xs ++ c) e
+
+line_none : (v : Verdict) → verdict_line v [] ≡ verdict_text v
+unfolding chunks
+line_none v = before (10 ∷ []) (append-nil (head_text v))
+
+line_one : (v : Verdict) (m : ℕ) → verdict_line v (m ∷ []) ≡ verdict_with v m
+unfolding chunks
+line_one v m = refl
+
+line_two : (v : Verdict) (m n : ℕ) → verdict_line v (m ∷ n ∷ []) ≡ verdict_with_two v m n
+unfolding chunks
+line_two v m n = before (10 ∷ []) (sym (append_assoc (head_text v) (after m) (after n)))
+
+line_three : (v : Verdict) (m n o : ℕ) → verdict_line v (m ∷ n ∷ o ∷ []) ≡ verdict_with_three v m n o
+unfolding chunks
+line_three v m n o =
+    before (10 ∷ [])
+    (sym (append_assoc (head_text v) (after m ++ after n) (after o)) ∙ before (after o) (sym (append_assoc (head_text v) (after m) (after n))))
+
+pub check_line : (r : Result (Unit {0}) Refusal) → verdict_line (verdict_in r) [] ≡ verdict_text (verdict_in r)
+check_line r = line_none _
+
+pub level_line : (r : Result ℕ Refusal) → verdict_line (verdict_in r) (result_unwrap_or r 0 ∷ []) ≡ level_text (level_told r)
+level_line (Ok word) = line_one _ _
+level_line (Err refusal) = line_one _ _
+
+pub play_line : (r : Result ℕ Refusal) → verdict_line (verdict_in r) (result_unwrap_or r 0 ∷ []) ≡ play_text (play_told r)
+play_line (Ok word) = line_one _ _
+play_line (Err refusal) = line_one _ _
+
+pub locate_line :
+    (r : Result LinePixel Refusal) {v : Verdict} {there : LinePixel} {a : Located} →
+    v ≡ verdict_in r → there ≡ result_unwrap_or r (record { line = 0; pixel = 0 }) → locate_told r ≡ a →
+    verdict_line v (there.line ∷ there.pixel ∷ []) ≡ locate_text a
+locate_line (Ok there) e t a = rw (e, t) (line_two _ _ _ ∙ ap locate_text a)
+locate_line (Err refusal) e t a = rw (e, t) (line_two _ _ _ ∙ ap locate_text a)
+
+pub edge_line : (r : Result (Option LinePixel) Refusal) → verdict_line (verdict_in r) (edge_numbers (result_unwrap_or r None)) ≡ edge_text (edge_told r)
+edge_line (Ok (Some there)) = line_three _ _ _ _
+edge_line (Ok None) = line_three _ _ _ _
+edge_line (Err refusal) = line_three _ _ _ _
+
+-- the line, and what is put beside it
+pub read_line :
+    (r : Result Profile Refusal) {v : Verdict} {p : Profile} → v ≡ verdict_in r → p ≡ result_unwrap_or r empty_profile →
+    verdict_line v [] ++ profile_line p ≡ read_text (read_told r)
+read_line (Ok profile) e u = rw (e, u) (before _ (line_none _))
+read_line (Err refusal) e u = rw (e, u) (before _ (line_none _))
+
+pub write_line :
+    (p : Profile) (r : Result ℕ Refusal) (out : List ℕ) {out' : List ℕ} {v : Verdict} {n : ℕ} → v ≡ verdict_in r → n ≡ result_unwrap_or r 0 →
+    write_told r ≡ write_answer newest_rules p (length out) → out' ≡ write_leaves newest_rules p out →
+    verdict_line v (n ∷ []) ++ hex_line out' ≡ write_of p out
+unfolding write_of write_text
+write_line p (Ok n) out e u t l = rw (e, u, l, ← t) (before _ (line_one _ _))
+write_line p (Err refusal) out e u t l = rw (e, u, l, ← t) (before _ (line_one _ _))
+
+pub compile_line :
+    {rules : Ruleset} {p : Profile} {cs ws cs' ws' : List ℕ} (r : Result ListSize Refusal) {v : Verdict} {size : ListSize} →
+    v ≡ verdict_in r → size ≡ result_unwrap_or r (record { steps = 0; pixels = 0 }) → Compiles rules p cs ws (compile_told r) cs' ws' →
+    verdict_line v (size.steps ∷ size.pixels ∷ []) ++ joined_line cs' ++ joined_line ws' ≡ compile_of rules p cs ws
+unfolding compile_of compile_text
+compile_line (Ok size) e u c = rw (e, u, ← c.answer, ← c.counts, ← c.words) (before _ (before _ (line_two _ _ _)))
+compile_line (Err refusal) e u c = rw (e, u, ← c.answer, ← c.counts, ← c.words) (before _ (before _ (line_two _ _ _)))
 
 -- lists that were filled from a payload
 module _ (b cs ws cs' ws' : List ℕ) (n : ℕ) where
@@ -46,58 +108,3 @@ module _ (b cs ws cs' ws' : List ℕ) (n : ℕ) where
       n ≡ length cs → play_text (play_answer cs' ws' u k) ≡ play_lines (length cs) (length ws) b
   unfolding play_lines
   play_filled u k eu ek ec ew en = rw (eu, ek, ec, ew, en)
-
-pub taken_short : (n k : ℕ) (l : List ℕ) → n ≤ k → length (take n l) ≤ k
-taken_short n k l h = omega (arith, length-take n l)
-
--- parts of two lists, as long as is asked
-pub taken_lines :
-    (f : ℕ → ℕ → List ℕ) (l m : List ℕ) (c w c' w' : ℕ) →
-    c ≤ length l → w ≤ length m → c ≡ c' → w ≡ w' → f (length (take c l)) (length (take w m)) ≡ f c' w'
-taken_lines f l m c w c' w' hc hw ec ew = rw (length-take-le c l hc, length-take-le w m hw, ec, ew)
-
--- each kind has its lines
-module _ (kind : ℕ) (b : List ℕ) where
-  pub read_kind : kind ≡ 82 → read_text (read_script newest_rules b) ≡ lines_of kind b
-  unfolding lines_of
-  read_kind e = rw e
-
-  pub chunked_kind : kind ≡ 85 → chunked_text b ≡ lines_of kind b
-  unfolding lines_of
-  chunked_kind e = rw e
-
-  pub stated_kind : kind ≡ 86 → stated_text b ≡ lines_of kind b
-  unfolding lines_of
-  stated_kind e = rw e
-
-  pub check_kind : kind ≡ 67 → verdict_text (check_profile newest_rules (raw_profile b)) ≡ lines_of kind b
-  unfolding lines_of
-  check_kind e = rw e
-
-  pub write_kind : kind ≡ 87 → write_of (raw_profile b) (drop raw_length b) ≡ lines_of kind b
-  unfolding lines_of
-  write_kind e = rw e
-
-  pub level_kind : kind ≡ 76 → level_text (level_answer (rules_at b raw_length) (raw_profile b) (eight_at b versioned_length) (eight_at b (versioned_length + 8))) ≡ lines_of kind b
-  unfolding lines_of
-  level_kind e = rw e
-
-  pub edge_kind : kind ≡ 69 → edge_text (next_edge_answer (rules_at b raw_length) (raw_profile b) (eight_at b versioned_length) (eight_at b (versioned_length + 8))) ≡ lines_of kind b
-  unfolding lines_of
-  edge_kind e = rw e
-
-  pub locate_kind : kind ≡ 78 → locate_text (locate_answer newest_rules (raw_profile b) (eight_at b raw_length)) ≡ lines_of kind b
-  unfolding lines_of
-  locate_kind e = rw e
-
-  pub compile_kind : kind ≡ 75 → compile_lines (length_at b versioned_length) (length_at b (versioned_length + 4)) b ≡ lines_of kind b
-  unfolding lines_of
-  compile_kind e = rw e
-
-  pub jump_kind : kind ≡ 74 → compile_lines (length_at b versioned_length) (length_at b (versioned_length + 4)) b ≡ lines_of kind b
-  unfolding lines_of
-  jump_kind e = rw e
-
-  pub text_kind : kind ≡ 84 → printed (rules_at b 0) (drop version_length b) ≡ lines_of kind b
-  unfolding lines_of
-  text_kind e = rw e

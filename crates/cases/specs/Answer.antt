@@ -93,6 +93,10 @@ profile_line p = tables_text p.tables ++ field_text p.field ++ (10 ∷ [])
 abbrev pub head_text : Verdict → List ℕ
 head_text v = decimal v.number ++ after v.place ++ after v.output ++ after v.toggle
 
+-- a verdict and the numbers after it
+abbrev pub verdict_line : Verdict → List ℕ → List ℕ
+verdict_line v ns = head_text v ++ chunks (length ns) (λ i. after (get_or ns i 0)) ++ (10 ∷ [])
+
 -- "CASE k KIND"
 abbrev pub case_line : ℕ → ℕ → List ℕ
 case_line k kind = (67 ∷ 65 ∷ 83 ∷ 69 ∷ []) ++ after k ++ (32 ∷ kind ∷ 10 ∷ [])

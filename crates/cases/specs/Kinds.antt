@@ -1,28 +1,26 @@
 -- What is printed for a payload of each kind: the answer of its entry point, which the crates below define, as lines of text.
 -- Assumes nothing.
-use Rattle.std.specs.Prelude.{ℕ, ◌+◌, ◌*◌, min, List, [], ◌∷◌, ◌++◌, cond, ◌||◌, eqb, length, drop}
+use Rattle.std.specs.Prelude.{ℕ, ◌+◌, ◌*◌, min, List, [], ◌∷◌, ◌++◌, cond, ◌||◌, eqb, length, drop, Option, Some, None}
 use Rattle.profile.specs.Versions.{newest_rules}
 use Rattle.profile.specs.Rules.{check_profile}
 use Rattle.profile.specs.Script.{read_script}
 use Rattle.profile.specs.Upload.{start_upload, upload_answer}
 use Rattle.profile.specs.Writing.{write_answer, write_leaves}
-use Rattle.profile.specs.declared.ReadAnswer.{ReadAnswer}
+use Rattle.profile.specs.Values.{ReadAnswer, Written}
 use Rattle.profile.specs.declared.Verdict.{Verdict}
-use Rattle.profile.specs.declared.Written.{Written}
 use Rattle.profile.specs.declared.Profile.{Profile}
 use Rattle.profile.specs.declared.Ruleset.{Ruleset}
-use Rattle.level.specs.Place.{level_answer, locate_answer, next_edge_answer}
-use Rattle.level.specs.declared.LevelAnswer.{LevelAnswer}
-use Rattle.level.specs.declared.Located.{Located}
-use Rattle.level.specs.declared.Edge.{Edge}
+use Rattle.level.specs.Place.{LevelAnswer, Located, Edge, level_answer, locate_answer, next_edge_answer}
+use Rattle.level.specs.declared.LinePixel.{LinePixel}
 use Rattle.holdlist.specs.Compile.{room_of, compile_answer, compile_counts, compile_words}
-use Rattle.holdlist.specs.Play.{play_answer}
+use Rattle.holdlist.specs.Demand.{Compiled}
+use Rattle.holdlist.specs.Play.{Played, play_answer}
 use Rattle.holdlist.specs.Text.{printed}
-use Rattle.holdlist.specs.declared.Compiled.{Compiled}
-use Rattle.holdlist.specs.declared.Played.{Played}
 use Rattle.cases.specs.Raw.{four_at, eight_at, numbers_from, fours_from, raw_length, version_length, versioned_length, rules_at, raw_profile}
 use Rattle.cases.specs.Chunked.{upload_at, state_of}
 use Rattle.cases.specs.Answer.{after, flag_number, head_text, hex_line, joined_line, profile_line}
+use Rattle.cases.specs.declared.answers.Kind.{Kind}
+use Rattle.cases.specs.declared.answers.Kind.TheVariants.{Read, Chunked, Stated, Check, Write, Level, NextEdge, Locate, Compile, CompileEdges, Text, Play}
 
 -- ---- lines of an answer
 
@@ -38,6 +36,11 @@ verdict_with_two v m n = head_text v ++ after m ++ after n ++ (10 ∷ [])
 
 abbrev pub verdict_with_three : Verdict → ℕ → ℕ → ℕ → List ℕ
 verdict_with_three v m n o = head_text v ++ after m ++ after n ++ after o ++ (10 ∷ [])
+
+-- the numbers of a next edge, and zeros where there is none
+abbrev pub edge_numbers : Option LinePixel → List ℕ
+edge_numbers (Some there) = 1 ∷ there.line ∷ there.pixel ∷ []
+edge_numbers None = 0 ∷ 0 ∷ 0 ∷ []
 
 abbrev pub read_text : ReadAnswer → List ℕ
 read_text a = verdict_text a.verdict ++ profile_line a.profile
@@ -106,3 +109,18 @@ lines_of kind b =
     (cond (eqb kind 78) (locate_text (locate_answer newest_rules (raw_profile b) (eight_at b raw_length)))
     (cond (eqb kind 75 || eqb kind 74) (compile_lines (length_at b versioned_length) (length_at b (versioned_length + 4)) b)
     (cond (eqb kind 84) (printed (rules_at b 0) (drop version_length b)) (play_lines (length_at b 0) (length_at b 4) b))))))))))
+
+-- the letter of a kind of code
+abbrev pub letter_of : Kind → ℕ
+letter_of Read = 82
+letter_of Chunked = 85
+letter_of Stated = 86
+letter_of Check = 67
+letter_of Write = 87
+letter_of Level = 76
+letter_of NextEdge = 69
+letter_of Locate = 78
+letter_of Compile = 75
+letter_of CompileEdges = 74
+letter_of Text = 84
+letter_of Play = 80

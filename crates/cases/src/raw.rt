@@ -1,31 +1,21 @@
 // Numbers of a payload, little-endian, and the raw profile: 381 numbers of two bytes. What lies past the payload is 0.
-ghost use Rattle.std.specs.Prelude.{◌≡◌, ◌+◌, ◌*◌, ◌<◌, min, length, get_or};
+ghost use Rattle.std.specs.Prelude.{ℕ, ◌≡◌, ◌+◌, ◌*◌, ◌<◌, min, length, get_or};
 ghost use Rattle.profile.specs.Bytes.{number_at};
 ghost use Rattle.cases.specs.Raw.{four_at, eight_at, rules_at, raw_sequence, raw_gate, raw_subck, raw_shutter, raw_region, bytes_from, numbers_from, fours_from, raw_count, raw_numbers, raw_sequences, raw_gates, raw_shutters, raw_regions, field_with, raw_profile};
 ghost use Rattle.cases.specs.Faults.{below, is_raw, has_lists};
 
 use profile::{
-    Field, Gate, Profile, Region, Ruleset, Sequence, Shutter, Subck, Tables, mode_of, ruleset_of,
+    Field, Gate, Mode, Profile, Region, Ruleset, Sequence, Shutter, Subck, Tables, ruleset_of,
 };
+use std::array;
 
 // ---- numbers
 
-fn byte_at(body: &[u8], at: usize) -> u8
+// As in `ask`: programs share libraries and no program's code.
+pub(crate) fn byte_at(body: &[u8], at: usize) -> u8
     ensures { result ≡ get_or body.now at 0 }
 {
-    if at < body.len() { body[at] } else { 0 }
-}
-
-fn wide(x: u8) -> u16
-    ensures { (result ≡ x) × (result < 256) }
-{
-    x as u16
-}
-
-fn wider(x: u8) -> u32
-    ensures { (result ≡ x) × (result < 256) }
-{
-    x as u32
+    body.get(at).copied().unwrap_or(0)
 }
 
 // The number of two bytes.
@@ -33,7 +23,7 @@ pub(crate) fn number_at(body: &[u8], at: usize) -> u16
     requires { at < 200000 }
     ensures { result ≡ number_at body.now at }
 {
-    wide(byte_at(body, at)) + 256 * wide(byte_at(body, at + 1))
+    u16::from_le_bytes([byte_at(body, at), byte_at(body, at + 1)])
 }
 
 // The rules of the version at a place.
@@ -49,18 +39,31 @@ pub(crate) fn four_at(body: &[u8], at: usize) -> u32
     requires { at < 65536 }
     ensures { result ≡ four_at body.now at }
 {
-    wider(byte_at(body, at))
-        + 256 * wider(byte_at(body, at + 1))
-        + 65536 * wider(byte_at(body, at + 2))
-        + 16777216 * wider(byte_at(body, at + 3))
+    u32::from_le_bytes([
+        byte_at(body, at),
+        byte_at(body, at + 1),
+        byte_at(body, at + 2),
+        byte_at(body, at + 3),
+    ])
 }
 
-// The number of eight bytes.
+// The number of eight bytes, of two fours: `from_le_bytes` would join eight tests of where a byte stands.
 pub(crate) fn eight_at(body: &[u8], at: usize) -> u64
     requires { at < 60000 }
     ensures { result ≡ eight_at body.now at }
 {
-    (four_at(body, at) as u64) + 4294967296 * (four_at(body, at + 4) as u64)
+    u64::from(four_at(body, at)) + 4294967296 * u64::from(four_at(body, at + 4))
+}
+
+// Fills a list: each entry is what is told of its index.
+fn fill<T: Copy, F: Fn(usize) -> T>(list: &mut [T], entry: F)
+    requires { (k : ℕ) → k < length list.old → F.pre entry k }
+    ensures long { length list.new ≡ length list.old }
+    ensures filled { (k : ℕ) (d : T) → k < length list.old → F.post entry k (get_or list.new k d) }
+{
+    for i in 0..list.len() {
+        list[i] = entry(i);
+    }
 }
 
 // Fills a list with the numbers from a place on.
@@ -68,36 +71,17 @@ pub(crate) fn fill_numbers(list: &mut [u16], body: &[u8], at: usize)
     requires { at + 2 * length list.old < 65536 }
     ensures { list.new ≡ numbers_from body.now at (length list.old) }
 {
-    let mut i: usize = 0;
-    while i < list.len() {
-        list[i] = number_at(body, at + 2 * i);
-        i += 1;
-    }
-}
-
-pub(crate) fn fill_bytes(list: &mut [u8], body: &[u8], at: usize)
-    requires { at + length list.old < 65536 }
-    ensures { list.new ≡ bytes_from body.now at (length list.old) }
-{
-    let mut i: usize = 0;
-    while i < list.len() {
-        list[i] = byte_at(body, at + i);
-        i += 1;
-    }
+    fill(list, |i| number_at(body, at + 2 * i));
 }
 
 pub(crate) fn fill_fours(list: &mut [u32], body: &[u8], at: usize)
     requires { at + 4 * length list.old < 65536 }
     ensures { list.new ≡ fours_from body.now at (length list.old) }
 {
-    let mut i: usize = 0;
-    while i < list.len() {
-        list[i] = four_at(body, at + 4 * i);
-        i += 1;
-    }
+    fill(list, |i| four_at(body, at + 4 * i));
 }
 
-// ---- items, from number k of the raw profile on
+// ---- items, from number k of the raw profile on; places are asked to be below a round number, so that what is added to them cannot wrap
 
 // The numbers of a raw profile, and its bytes; the bytes with a number of eight bytes behind it, and with two.
 const RAW_COUNT: usize = 381;
@@ -115,9 +99,9 @@ pub(crate) const VERSIONED_AND_ONE: usize = 772;
 
 pub(crate) const VERSIONED_AND_TWO: usize = 780;
 
-fn raw_sequence(n: [u16; RAW_COUNT], k: usize) -> Sequence
+fn raw_sequence(n: &[u16; RAW_COUNT], k: usize) -> Sequence
     requires { k < 370 }
-    ensures { result ≡ raw_sequence n k }
+    ensures { result ≡ raw_sequence n.now k }
 {
     Sequence {
         present: n[k] == 1,
@@ -130,9 +114,9 @@ fn raw_sequence(n: [u16; RAW_COUNT], k: usize) -> Sequence
     }
 }
 
-fn raw_gate(n: [u16; RAW_COUNT], k: usize) -> Gate
+fn raw_gate(n: &[u16; RAW_COUNT], k: usize) -> Gate
     requires { k < 370 }
-    ensures { result ≡ raw_gate n k }
+    ensures { result ≡ raw_gate n.now k }
 {
     Gate {
         present: n[k] == 1,
@@ -143,9 +127,9 @@ fn raw_gate(n: [u16; RAW_COUNT], k: usize) -> Gate
     }
 }
 
-fn raw_subck(n: [u16; RAW_COUNT], k: usize) -> Subck
+fn raw_subck(n: &[u16; RAW_COUNT], k: usize) -> Subck
     requires { k < 370 }
-    ensures { result ≡ raw_subck n k }
+    ensures { result ≡ raw_subck n.now k }
 {
     Subck {
         present: n[k] == 1,
@@ -157,9 +141,9 @@ fn raw_subck(n: [u16; RAW_COUNT], k: usize) -> Subck
     }
 }
 
-fn raw_shutter(n: [u16; RAW_COUNT], k: usize) -> Shutter
+fn raw_shutter(n: &[u16; RAW_COUNT], k: usize) -> Shutter
     requires { k < 370 }
-    ensures { result ≡ raw_shutter n k }
+    ensures { result ≡ raw_shutter n.now k }
 {
     Shutter {
         present: n[k] == 1,
@@ -171,98 +155,62 @@ fn raw_shutter(n: [u16; RAW_COUNT], k: usize) -> Shutter
     }
 }
 
-fn raw_region(n: [u16; RAW_COUNT], k: usize) -> Region
+fn raw_region(n: &[u16; RAW_COUNT], k: usize) -> Region
     requires { k < 379 }
-    ensures { result ≡ raw_region n k }
+    ensures { result ≡ raw_region n.now k }
 {
     Region {
         first: n[k],
         sequence: n[k + 1],
-        mode: mode_of(n[k + 2]),
+        mode: Mode::from(n[k + 2]),
     }
 }
 
 // ---- the raw profile
 
-fn register_room() -> [u16; 240]
-    ensures { 240 ≡ length result }
-{
-    [0; 240]
-}
-
+// Registers, and below all numbers: a const parameter for the two lengths would owe a bound on it.
 fn raw_registers(body: &[u8]) -> [u16; 240]
     ensures { result ≡ numbers_from body.now 0 240 }
 {
-    let mut registers = register_room();
+    let mut registers = [0; 240];
     fill_numbers(&mut registers, body, 0);
     registers
-}
-
-fn number_room() -> [u16; RAW_COUNT]
-    ensures { raw_count ≡ length result }
-{
-    [0; RAW_COUNT]
 }
 
 fn raw_numbers(body: &[u8]) -> [u16; RAW_COUNT]
     ensures { result ≡ raw_numbers body.now }
 {
-    let mut numbers = number_room();
+    let mut numbers = [0; RAW_COUNT];
     fill_numbers(&mut numbers, body, 0);
     numbers
 }
 
-fn raw_sequences(n: [u16; RAW_COUNT]) -> [Sequence; 10]
-    ensures { result ≡ raw_sequences n }
+fn raw_sequences(n: &[u16; RAW_COUNT]) -> [Sequence; 10]
+    ensures { result ≡ raw_sequences n.now }
 {
-    [
-        raw_sequence(n, 240),
-        raw_sequence(n, 247),
-        raw_sequence(n, 254),
-        raw_sequence(n, 261),
-        raw_sequence(n, 268),
-        raw_sequence(n, 275),
-        raw_sequence(n, 282),
-        raw_sequence(n, 289),
-        raw_sequence(n, 296),
-        raw_sequence(n, 303),
-    ]
+    array::from_fn(|i| raw_sequence(n, 240 + 7 * i))
 }
 
-fn raw_gates(n: [u16; RAW_COUNT]) -> [Gate; 5]
-    ensures { result ≡ raw_gates n }
+fn raw_gates(n: &[u16; RAW_COUNT]) -> [Gate; 5]
+    ensures { result ≡ raw_gates n.now }
 {
-    [
-        raw_gate(n, 310),
-        raw_gate(n, 315),
-        raw_gate(n, 320),
-        raw_gate(n, 325),
-        raw_gate(n, 330),
-    ]
+    array::from_fn(|i| raw_gate(n, 310 + 5 * i))
 }
 
-fn raw_shutters(n: [u16; RAW_COUNT]) -> [Shutter; 2]
-    ensures { result ≡ raw_shutters n }
+fn raw_shutters(n: &[u16; RAW_COUNT]) -> [Shutter; 2]
+    ensures { result ≡ raw_shutters n.now }
 {
-    [raw_shutter(n, 341), raw_shutter(n, 347)]
+    array::from_fn(|i| raw_shutter(n, 341 + 6 * i))
 }
 
-fn raw_regions(n: [u16; RAW_COUNT]) -> [Region; 7]
-    ensures { result ≡ raw_regions n }
+fn raw_regions(n: &[u16; RAW_COUNT]) -> [Region; 7]
+    ensures { result ≡ raw_regions n.now }
 {
-    [
-        raw_region(n, 360),
-        raw_region(n, 363),
-        raw_region(n, 366),
-        raw_region(n, 369),
-        raw_region(n, 372),
-        raw_region(n, 375),
-        raw_region(n, 378),
-    ]
+    array::from_fn(|i| raw_region(n, 360 + 3 * i))
 }
 
-fn raw_field(n: [u16; RAW_COUNT], regions: [Region; 7]) -> Field
-    ensures { result ≡ field_with n regions }
+fn raw_field(n: &[u16; RAW_COUNT], regions: [Region; 7]) -> Field
+    ensures { result ≡ field_with n.now regions }
 {
     Field {
         present: n[353] == 1,
@@ -272,32 +220,24 @@ fn raw_field(n: [u16; RAW_COUNT], regions: [Region; 7]) -> Field
         gate2: n[357],
         second: n[358],
         count: n[359],
-        regions: regions,
+        regions,
     }
 }
 
+#[tactic(auto, unfolding(crate::specs::Raw::raw_tables, crate::specs::Raw::raw_field))]
 pub(crate) fn raw_profile(body: &[u8]) -> Profile
     ensures { result ≡ raw_profile body.now }
 {
-    let registers = raw_registers(body);
     let n = raw_numbers(body);
-    let sequences = raw_sequences(n);
-    let gates = raw_gates(n);
-    let subck = raw_subck(n, 335);
-    let shutters = raw_shutters(n);
-    let regions = raw_regions(n);
-    let field = raw_field(n, regions);
     let tables = Tables {
-        registers: registers,
-        sequences: sequences,
-        gates: gates,
-        subck: subck,
-        shutters: shutters,
+        registers: raw_registers(body),
+        sequences: raw_sequences(&n),
+        gates: raw_gates(&n),
+        subck: raw_subck(&n, 335),
+        shutters: raw_shutters(&n),
     };
-    Profile {
-        tables: tables,
-        field: field,
-    }
+    let field = raw_field(&n, raw_regions(&n));
+    Profile { tables, field }
 }
 
 // ---- faults
@@ -309,18 +249,11 @@ fn all_below(body: &[u8], at: usize, step: usize, n: usize, limit: u16) -> bool
     requires n_bound { n < 100 }
     ensures { result ≡ below body.now at step n limit }
 {
-    let mut below = true;
-    let mut place = at;
-    let mut i: usize = 0;
-    while i < n {
-        below = below & (number_at(body, place) < limit);
-        place += step;
-        i += 1;
-    }
-    below
+    (0..n).all(|i| number_at(body, at + step * i) < limit)
 }
 
 // Whether a payload begins with a raw profile: each present flag is 0 or 1, each mode 0, 1 or 2.
+#[tactic(auto, unfolding(crate::specs::Faults::is_raw))]
 pub(crate) fn is_raw(body: &[u8]) -> bool
     ensures { result ≡ is_raw body.now }
 {
@@ -353,9 +286,5 @@ pub(crate) fn length_at(body: &[u8], at: usize) -> usize
     requires { at < 1000 }
     ensures { result ≡ min 4096 (four_at body.now at) }
 {
-    let n = four_at(body, at);
-    if 4096 < n {
-        return 4096;
-    }
-    n as usize
+    four_at(body, at).min(4096) as usize
 }

@@ -5,7 +5,7 @@ use mathlib.Core.Path.{◌≡◌, sym, ◌∙◌}
 use mathlib.Core.List.{List}
 use Rattle.profile.specs.declared.Profile.{Profile}
 use Rattle.profile.specs.declared.Ruleset.{Ruleset}
-use Rattle.holdlist.specs.declared.Compiled.{Compiled}
+use Rattle.holdlist.specs.Demand.{Compiled}
 use Rattle.holdlist.specs.Compile.{Compiles}
 
 pub one_answer :

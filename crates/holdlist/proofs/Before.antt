@@ -12,7 +12,7 @@ use Rattle.profile.specs.declared.Ruleset.{Ruleset}
 use Rattle.profile.proofs.Before.{check_before, check_before_lem}
 use Rattle.level.proofs.Before.{words_before, words-before}
 use Rattle.holdlist.specs.Compile.{hold_answer, hold_counts, hold_words, compile_answer, compile_counts, compile_words}
-use Rattle.holdlist.specs.declared.Compiled.{Compiled}
+use Rattle.holdlist.specs.Demand.{Compiled}
 
 -- what is answered by the check's verdict and the words, and what is left in a list, the counts or the words, by how the words held leave it
 abbrev pub compile_by : Verdict → List ℕ → ℕ → Compiled

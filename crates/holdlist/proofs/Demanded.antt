@@ -27,7 +27,7 @@ use Rattle.level.specs.Line.{line_of}
 use Rattle.level.specs.Word.{word_of}
 use Rattle.level.specs.Place.{place_of}
 use Rattle.level.specs.Fieldwords.{field_words}
-use Rattle.holdlist.specs.declared.Compiled.{Compiled}
+use Rattle.holdlist.specs.Demand.{Compiled}
 use Rattle.holdlist.specs.Play.{play_answer, played_word, played_nothing}
 use Rattle.holdlist.specs.Runs.{runs, step_counts, step_words}
 use Rattle.holdlist.specs.Compile.{

@@ -4,20 +4,20 @@
 use Prim.Native.Nat.{ℕ, ◌+◌, ◌-◌, ◌≤◌, ◌<◌}
 use native.Mathlib.Omega.{arith}
 use mathlib.Core.Path.{◌≡◌, sym, ap, ◌∙◌}
-use mathlib.Core.List.{List}
 use lib.ListN.{length}
 use Rattle.profile.specs.Lists.{chunks}
 use Rattle.profile.specs.Values.{accepted}
-use Rattle.profile.specs.Geometry.{region_count, first_line, end_line, line_length}
+use Rattle.profile.specs.Geometry.{region_count, region_at, first_line, end_line, line_length}
 use Rattle.profile.specs.Rules.{check_profile}
 use Rattle.profile.specs.declared.Tables.{Tables}
 use Rattle.profile.specs.declared.Field.{Field}
 use Rattle.profile.specs.declared.Profile.{Profile}
+use Rattle.profile.specs.declared.Region.{Region}
 use Rattle.profile.specs.declared.Ruleset.{Ruleset}
-use Rattle.profile.proofs.Laws.{chunks_ext, length-chunks_le}
+use Rattle.profile.proofs.Laws.{length-chunks_le}
 use Rattle.profile.proofs.Checked.{check_range}
 use Rattle.profile.proofs.Accepted.{accepted-field, accepted_ordered}
-use Rattle.profile.proofs.Lines.{start-before-end, end_most, ranged, line_length_most}
+use Rattle.profile.proofs.Lines.{end_most, ranged, line_length_most}
 use Rattle.level.specs.declared.Line.{Line}
 use Rattle.level.specs.declared.Strip.{Strip}
 use Rattle.level.specs.Line.{line_of}
@@ -32,40 +32,27 @@ accepted_fillable rules p e =
     let field = accepted-field rules p e in
     record { ordered = accepted_ordered rules p e; lengths = line_length_most p range field; lines = (ranged p range field).most_lines }
 
-module _ (t : Tables) (f : Field) (ok : Fillable t f) where
-  pub region_starts : (i : ℕ) → i < region_count f → first_line f i ≤ end_line f i
-  region_starts i h = omega (arith, start-before-end f ok.ordered i h)
+pub starts_at : (f : Field) (i : ℕ) {r : Region} → r ≡ region_at f i → r.first ≡ first_line f i
+starts_at f i e = ap (λ (r : Region). r.first) e
 
-  pub region_ends : (i : ℕ) → end_line f i ≤ f.lines
-  region_ends i = end_most f ok.ordered i
+-- a line of a region, made of what the region's lines share, is the field's
+module _
+    (version : ℕ) (t : Tables) (f : Field) (ok : Fillable t f) (i : ℕ) (h : i < region_count f) {number : ℕ} {strip : Strip} {line : Line}
+    (from : first_line f i ≤ number) (below : number < end_line f i) (es : strip ≡ strip_of version t f i) (el : line ≡ line_on strip number)
+  where
+    made-line : line ≡ line_of version t f number
+    made-line = rw (el, es) (strip_line version t f i number ∙ sym (line-of-region version t f number ok.ordered i h from below))
 
--- the words of line k of a region, made of what the region's lines share
-abbrev pub strip_words : Strip → ℕ → ℕ → List ℕ
-strip_words s first k = line_words (line_on s (first + k)) (line_on s (first + k)).length
+    made-length : line.length ≡ line_length t f number
+    made-length = ap (λ (l : Line). l.length) made-line ∙ line_of-length version t f number (omega (arith, end_most f ok.ordered i))
 
-module _ (version : ℕ) (t : Tables) (f : Field) (ok : Fillable t f) (i : ℕ) (h : i < region_count f) where
-  -- it is the field's line, and has its length and words
-  module _ (k : ℕ) (l : k < end_line f i - first_line f i) where
-    made-line : line_on (strip_of version t f i) (first_line f i + k) ≡ line_of version t f (first_line f i + k)
-    made-line =
-        strip_line version t f i (first_line f i + k)
-        ∙ sym (line-of-region version t f (first_line f i + k) ok.ordered i h (omega arith) (omega arith))
+    pub made_words : line_words line line.length ≡ words_on_line version t f (first_line f i + (number - first_line f i))
+    made_words =
+        let there : number ≡ first_line f i + (number - first_line f i) = omega arith in
+        (λ j. line_words (made-line j) (made-length j)) ∙ ap (words_on_line version t f) there
 
-    made-length : (line_on (strip_of version t f i) (first_line f i + k)).length ≡ line_length t f (first_line f i + k)
-    made-length =
-        ap (λ (l : Line). l.length) made-line
-        ∙ line_of-length version t f (first_line f i + k) (omega (arith, end_most f ok.ordered i))
-
-    made-words : strip_words (strip_of version t f i) (first_line f i) k ≡ words_on_line version t f (first_line f i + k)
-    made-words = λ j. line_words (made-line j) (made-length j)
-
-  -- and so is the line made of the parts that code has
-  module _ {first n : ℕ} {strip : Strip} (ef : first ≡ first_line f i) (en : n ≡ end_line f i - first_line f i) (es : strip ≡ strip_of version t f i) where
-    pub strip-words : chunks n (strip_words strip first) ≡ region_words version t f i
-    strip-words = (λ j. chunks (en j) (strip_words (es j) (ef j))) ∙ chunks_ext _ _ _ made-words
-
-    pub strip-length : (k : ℕ) → k < n → (line_on strip (first + k)).length ≤ 4095
-    strip-length k l = rw (ef, es, made-length k (omega (arith, en))) (ok.lengths (first_line f i + k))
+    pub made-short : line.length ≤ 4095
+    made-short = rw made-length (ok.lengths number)
 
 module _ (version : ℕ) (t : Tables) (f : Field) where
   pub words-length : (line : ℕ) → length (words_on_line version t f line) ≡ line_length t f line

@@ -31,14 +31,10 @@ over_fit-length (x ∷ a) [] = refl
 over_fit-length (x ∷ a) (y ∷ s) = ap suc (over_fit-length a s)
 
 -- one element is written by a store at the front, where there is a place
-pub over_fit_one : (s : List ℕ) (x : ℕ) → set s 0 x ≡ over_fit (x ∷ []) s
+over_fit_one : (s : List ℕ) (x : ℕ) → set s 0 x ≡ over_fit (x ∷ []) s
 unfolding over_fit
 over_fit_one [] x = refl
 over_fit_one (y ∷ s) x = refl
-
-pub over_fit-full : (a s : List ℕ) → length s ≤ 0 → s ≡ over_fit a s
-over_fit-full a [] h = sym (over_fit_nil a)
-over_fit-full a (y ∷ s) h = absurd (omega arith)
 
 -- where all of it has a place
 pub over_fit-fits : (a s : List ℕ) → length a ≤ length s → over_fit a s ≡ over a s
@@ -183,6 +179,9 @@ turns_start f n o cs ws b c w =
 module _
     {f : ℕ → List ℕ} {n i steps : ℕ} {o held : Step} {cs ws cs' ws' : List ℕ} (t : Turns f n o cs ws i steps held cs' ws')
   where
+    pub turns_at : {i' : ℕ} → i ≡ i' → Turns f n o cs ws i' steps held cs' ws'
+    turns_at e = rw e at t
+
     -- the next chunk can be counted
     pub turn-counted : i < n → held.count + length (f i) < 2 ^ 32
     turn-counted l = omega (arith, t.few, t.done.small, chunk_room i n f l)
@@ -223,9 +222,11 @@ module _ (o : Step) (cs ws : List ℕ) where
 
   pub flush-step :
       {cs' ws' : List ℕ} →
-      (o.count ≡ 0 → ⊥) → cs' ≡ over_fit (o.count ∷ []) cs → ws' ≡ over_fit (o.word ∷ []) ws → Writes (flush o) cs ws 1 cs' ws'
+      (o.count ≡ 0 → ⊥) → cs' ≡ set cs 0 o.count → ws' ≡ set ws 0 o.word → Writes (flush o) cs ws 1 cs' ws'
   unfolding flush
-  flush-step e p q = let f = ne_eqb o.count 0 e in record { number = rw f; counts = rw f p; words = rw f q }
+  flush-step e p q =
+      let f = ne_eqb o.count 0 e in
+      record { number = rw f; counts = rw f (p ∙ over_fit_one cs o.count); words = rw f (q ∙ over_fit_one ws o.word) }
 
 -- ---- a word is pushed a number of times
 

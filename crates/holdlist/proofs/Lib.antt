@@ -16,3 +16,4 @@ pub mod Named
 pub mod Agreeing
 pub mod Before
 pub mod OneLine
+pub mod Listing

@@ -4,18 +4,26 @@
 use Prim.Native.Nat.{ℕ, ◌+◌, ◌-◌, ◌*◌, ◌≤◌, ◌<◌, ◌^◌, min}
 use native.Mathlib.Omega.{arith}
 use mathlib.Core.Path.{◌≡◌, sym, ap, ◌∙◌}
-use mathlib.Core.List.{List, ◌++◌, map}
-use lib.ListN.{length, get_or, take, drop, replicate, length-map, get_or-append}
-use lib.Seq.{take_all}
+use mathlib.Core.List.{List, [], ◌∷◌, ◌++◌, map}
+use lib.ListN.{length, get_or, take, replicate, length-map, length-append}
+use lib.Seq.{take_all, take-append_seam}
 use borrow.Rule.Slice.PartMut.{mid_of, put_mid}
+use denote.Ref.{Bor}
+use Rattle.std.specs.declared.iter.Zip.{Zip}
+use Rattle.std.specs.Iterator.{Yields}
+use Rattle.std.specs.Iterator.Adapters.{zip_first, zip_second}
+use Rattle.std.specs.Slice.Iter.{iter_rest}
+use Rattle.std.proofs.Common.{Option, Some, None, Iter}
+use Rattle.std.proofs.iter.Yields.{fronts}
+use Rattle.std.proofs.lemmas.Iterator.{zips}
+use Rattle.std.proofs.lemmas.Slice.Zip.{zip_turn, zip_end}
 use Rattle.profile.specs.Lists.{over}
 use Rattle.profile.proofs.Laws.{chunks-none}
 use Rattle.level.specs.declared.Line.{Line}
-use Rattle.level.specs.Word.{word_of}
 use Rattle.level.specs.Fieldwords.{line_words}
-use Rattle.level.specs.Edges.{Stretch, stop_after, stretches_of, stretch_ends, stretch_words}
+use Rattle.level.specs.Edges.{Stretch, stretches_of, stretch_ends, stretch_words}
 use Rattle.level.proofs.Words.{line_words-length, line_words-at}
-use Rattle.level.proofs.Stopping.{stop_is, stretches_few, Along, stretch-below, stretch-end, stretch-word, along-more}
+use Rattle.level.proofs.Stopping.{stop_is, words_one, words_stop, Along, stretch-below, stretch-end, stretch-word, stretch_none, along-more}
 use Rattle.holdlist.specs.declared.Step.{Step}
 use Rattle.holdlist.specs.Fills.{Fills}
 use Rattle.holdlist.proofs.Fills.{fills_as, fills_none, fills_more, Filling, filling, hold_few}
@@ -63,58 +71,63 @@ module _ {l : Line} {o held : Step} {cs ws cs' ws' : List ℕ} {p steps : ℕ} (
 
 -- ---- buffers that a line has filled
 
--- a list laid over another is there at each of its places
-over-at : (xs ys : List ℕ) (k : ℕ) → k < length xs → get_or (over xs ys) k 0 ≡ get_or xs k 0
-over-at xs ys k h = get_or-append xs (drop (length xs) ys) 0 k h
-
--- the words at each pixel
-pub words_lent : (l : Line) (s s' : List ℕ) → l.length ≤ length s → s' ≡ over (line_words l (min l.length (length s))) s
-    → (p : ℕ) → p < l.length → get_or s' p 0 ≡ word_of l p
-words_lent l s s' h e p k =
+-- the front of it has the words at each pixel
+pub words_lent : (l : Line) (s s' : List ℕ) (n : ℕ) → l.length ≤ length s → s' ≡ over (line_words l (min l.length (length s))) s
+    → n ≡ l.length → take n s' ≡ line_words l l.length
+words_lent l s s' n h e k =
     let all : min l.length (length s) ≡ l.length = omega arith in
-    ap (λ (r : List ℕ). get_or r p 0) (e ∙ ap (λ n. over (line_words l n) s) all)
-    ∙ over-at (line_words l l.length) s p (omega (arith, line_words-length l l.length))
-    ∙ line_words-at l l.length p k
+    let long : n ≡ length (line_words l l.length) = k ∙ sym (line_words-length l l.length) in
+    rw (e, all, long) (take-append_seam (line_words l l.length) _)
 
--- where the stretches end, and their words
-pub record Lent (l : Line) (es ws : List ℕ) : Type 0 where
-  pub ends : (k : ℕ) → k < length (stretches_of l) → get_or es k 0 ≡ get_or (stretch_ends l) k 0
-  pub words : (k : ℕ) → k < length (stretches_of l) → get_or ws k 0 ≡ get_or (stretch_words l) k 0
+-- each of these is held for one pixel
+pub words_long : (l : Line) {s : List ℕ} → s ≡ line_words l l.length → length s ≡ l.length
+words_long l e = ap length e ∙ line_words-length l l.length
 
-lent_one : (l : Line) (f : Stretch → ℕ) (s s' : List ℕ) (n : ℕ) → n ≡ length (stretches_of l) → s' ≡ over (take n (map f (stretches_of l))) s
-    → (k : ℕ) → k < length (stretches_of l) → get_or s' k 0 ≡ get_or (map f (stretches_of l)) k 0
-lent_one l f s s' n en e k h =
+pub word_held : (l : Line) {s : List ℕ} (p : ℕ) → s ≡ line_words l l.length → p < length s → line_words l (p + 1) ≡ line_words l p ++ replicate 1 (get_or s p 0)
+word_held l p e h = words_one l p (ap (λ (r : List ℕ). get_or r p 0) e ∙ line_words-at l l.length p (omega (arith, words_long l e)))
+
+-- the front of it has the ends of the stretches, or their words
+pub stretches_lent : (l : Line) (f : Stretch → ℕ) (s s' : List ℕ) (n : ℕ) → n ≡ length (stretches_of l) → s' ≡ over (take n (map f (stretches_of l))) s
+    → take n s' ≡ map f (stretches_of l)
+stretches_lent l f s s' n k e =
     let long = length-map (stretches_of l) f in
-    ap (λ (r : List ℕ). get_or r k 0) (e ∙ ap (λ (r : List ℕ). over r s) (take_all n (map f (stretches_of l)) (omega arith)))
-    ∙ over-at (map f (stretches_of l)) s k (omega arith)
+    let all : take n (map f (stretches_of l)) ≡ map f (stretches_of l) = take_all n (map f (stretches_of l)) (omega arith) in
+    let size : n ≡ length (map f (stretches_of l)) = k ∙ sym long in
+    rw (e, all, size) (take-append_seam (map f (stretches_of l)) _)
 
-pub stretches_lent : (l : Line) (es ws : List ℕ) {es' ws' : List ℕ} {n : ℕ} → l.length ≤ length es → l.length ≤ length ws
-    → n ≡ min (length (stretches_of l)) (min (length es) (length ws)) → es' ≡ over (take n (stretch_ends l)) es → ws' ≡ over (take n (stretch_words l)) ws
-    → Lent l es' ws'
-stretches_lent l es ws {es'} {ws'} {n} a b en ee ew =
-    let all : n ≡ length (stretches_of l) = omega (arith, stretches_few l) in
-    record { ends = lent_one l (λ (s : Stretch). s.end) es es' n all ee; words = lent_one l (λ (s : Stretch). s.word) ws ws' n all ew }
+-- ---- a loop over the stretches' ends and words side by side: it has passed xs, and is at pixel p
 
--- the stretch that is next, after k of them
-pub record Reached (l : Line) (ends shown : List ℕ) (p k : ℕ) : Type 0 where
-  pub lent : Lent l ends shown
-  pub along : Along l p k
+pub record Reached (l : Line) (first : Zip (Iter ℕ) (Iter ℕ)) (p : ℕ) (xs : List (Bor ℕ × Bor ℕ)) : Type 0 where
+  pub ends : iter_rest (zip_first first) ≡ stretch_ends l
+  pub words : iter_rest (zip_second first) ≡ stretch_words l
+  pub along : Along l p (length xs)
 
-module _ {l : Line} {ends shown : List ℕ} {p k : ℕ} (x : Reached l ends shown p k) (h : p < l.length) where
-  pub next-below : k < l.length
-  next-below = omega (arith, stretch-below x.along h, stretches_few l)
+-- the next stretch goes from there to s
+pub record Next (l : Line) (first : Zip (Iter ℕ) (Iter ℕ)) (p : ℕ) (xs : List (Bor ℕ × Bor ℕ)) (x : Bor ℕ × Bor ℕ) : Type 0 where
+  pub later : p < x.0.now
+  pub within : x.0.now ≤ l.length
+  pub made : line_words l x.0.now ≡ line_words l p ++ replicate (x.0.now - p) x.1.now
+  pub reached : Reached l first x.0.now (xs ++ (x ∷ []))
 
-  pub next_stop : get_or ends k 0 ≡ stop_after l p
-  next_stop = x.lent.ends k (stretch-below x.along h) ∙ stretch-end x.along h
+module _
+    {l : Line} {first : Zip (Iter ℕ) (Iter ℕ)} {p : ℕ} {xs : List (Bor ℕ × Bor ℕ)} {r : Option (Bor ℕ × Bor ℕ)}
+    (v : Reached l first p xs) (here after : Zip (Iter ℕ) (Iter ℕ)) (y : Yields (zips fronts fronts) first xs here)
+  where
+    pub next_stretch : {x : Bor ℕ × Bor ℕ} → r ≡ Some x → zips fronts fronts here r after → Next l first p xs x
+    next_stretch {x} e steps =
+        let (below, _, end_at, word_at) = zip_turn _ _ xs first here after r v.ends v.words y x e steps in
+        let inside : p < l.length = grind (arith, stretch_none v.along, length-map (stretches_of l) (λ (s : Stretch). s.end)) in
+        let stop = end_at 0 ∙ stretch-end v.along inside in
+        let is = stop_is l p inside in
+        record {
+          later = omega (arith, stop, is.later);
+          within = omega (arith, stop, is.within);
+          made = words_stop l p inside stop (word_at 0 ∙ stretch-word v.along inside);
+          reached = record { ends = v.ends; words = v.words; along = rw (length-append xs (x ∷ [])) (along-more v.along inside stop) };
+        }
 
-  pub next_word : get_or shown k 0 ≡ word_of l p
-  next_word = x.lent.words k (stretch-below x.along h) ∙ stretch-word x.along h
-
-  pub next_later : p < get_or ends k 0
-  next_later = omega (arith, next_stop, (stop_is l p h).later)
-
-  pub next-within : get_or ends k 0 ≤ l.length
-  next-within = omega (arith, next_stop, (stop_is l p h).within)
-
-  pub next-reached : Reached l ends shown (get_or ends k 0) (k + 1)
-  next-reached = record { lent = x.lent; along = along-more x.along h next_stop }
+    -- after the last of them the line ends
+    pub stretches_end : r ≡ None → zips fronts fronts here r after → l.length ≤ p
+    stretches_end e steps =
+        let all = zip_end _ _ xs first here after r v.ends v.words y e steps in
+        grind (arith, all, stretch-below v.along, length-map (stretches_of l) (λ (s : Stretch). s.end), length-map (stretches_of l) (λ (s : Stretch). s.word))

@@ -13,8 +13,8 @@ use Rattle.profile.specs.declared.Profile.{Profile}
 use Rattle.profile.specs.declared.Verdict.{Verdict}
 use Rattle.profile.specs.declared.Ruleset.{Ruleset}
 use Rattle.profile.proofs.Named.{names_none, names_accepted, tested_names, after_check}
-use Rattle.holdlist.specs.declared.Compiled.{Compiled}
-use Rattle.holdlist.specs.declared.Played.{Played}
+use Rattle.holdlist.specs.Demand.{Compiled}
+use Rattle.holdlist.specs.Play.{Played}
 use Rattle.holdlist.specs.Compile.{hold_verdict, hold_answer, field_runs, compile_answer}
 use Rattle.holdlist.specs.Play.{walk, play_answer}
 

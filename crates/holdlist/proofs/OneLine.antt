@@ -15,7 +15,7 @@ use Rattle.level.specs.Fieldwords.{field_words}
 use Rattle.level.proofs.OneLine.{words_before, words-before}
 use Rattle.holdlist.proofs.Before.{compile_by, left_by}
 use Rattle.holdlist.specs.Compile.{hold_answer, hold_counts, hold_words, compile_answer, compile_counts, compile_words}
-use Rattle.holdlist.specs.declared.Compiled.{Compiled}
+use Rattle.holdlist.specs.Demand.{Compiled}
 
 pub compile_before : ℕ → Profile → ℕ → Compiled
 compile_before version p room = compile_by (check_before p) (words_before version p.tables p.field) room

@@ -17,7 +17,7 @@ use Rattle.profile.proofs.Lines.{regions-pixels}
 use Rattle.profile.proofs.Checked.{check_number}
 use Rattle.profile.proofs.Accepted.{accepted_ordered}
 use Rattle.level.proofs.Words.{field_words-length}
-use Rattle.holdlist.specs.declared.Compiled.{Compiled}
+use Rattle.holdlist.specs.Demand.{Compiled}
 use Rattle.holdlist.specs.Fills.{Writes}
 use Rattle.holdlist.specs.Compile.{room_of, field_runs, Compiles}
 use Rattle.holdlist.proofs.Fills.{writes_nowhere, writes_whole}

@@ -1,17 +1,24 @@
 -- Playing a list: 20 before all else, then walking its first steps, one a turn of the player's loop. What a player of a list of words shows,
 -- and that it tells the words. By computing the tests, and by recursion on the words.
 -- Assumes nothing.
-use Prim.Native.Nat.{ℕ, zero, suc, ◌+◌, ◌-◌, ◌≤◌, ◌<◌}
+use Prim.Native.Nat.{ℕ, zero, suc, ◌-◌, ◌≤◌, ◌<◌}
 use native.Mathlib.Omega.{arith}
-use native.Mathlib.Numerals.{add-one}
 use mathlib.Core.Path.{◌≡◌, refl, sym, ap, ◌∙◌}
 use mathlib.Core.List.{List, [], ◌∷◌}
 use mathlib.Core.Bool.{cond}
 use lib.ListN.{length, get_or, take}
-use lib.Seq.{slice, slice-cons, slice_empty}
 use lib.Dec.{ltb}
 use borrow.Author.Tests.{le-leb, lt-leb, lt-ltb, le-ltb}
-use Rattle.holdlist.specs.declared.Played.{Played}
+use denote.Ref.{Bor}
+use mathlib.Core.Logic.{◌⊎◌}
+use Rattle.std.specs.declared.iter.Zip.{Zip}
+use Rattle.std.specs.Iterator.Adapters.{zip_first, zip_second}
+use Rattle.std.specs.Slice.Iter.{iter_rest}
+use Rattle.std.proofs.Common.{Option, Some, None, Iter, inl, inr}
+use Rattle.std.proofs.iter.Yields.{fronts}
+use Rattle.std.proofs.lemmas.Iterator.{zips}
+use Rattle.std.proofs.lemmas.Slice.Zip.{Zip-more, either_empty_from_Zip}
+use Rattle.holdlist.specs.Play.{Played}
 use Rattle.holdlist.specs.Play.{walk, play_answer, played_word, played_nothing}
 
 -- ---- 20, and what is played otherwise
@@ -29,38 +36,37 @@ module _ (cs ws : List ℕ) (used n : ℕ) where
   unfolding play_answer
   play_walk k h = rw (le-leb used (length cs) k, le-leb used (length ws) h)
 
--- ---- the player's loop: to play n is to play `left` from step i on
+-- ---- the player's loop: to play n is to play `left` of the steps that are still to come
 
-pub record Playing (cs ws : List ℕ) (used n i left : ℕ) : Type 0 where
-  pub within : i ≤ used
-  pub counted : used ≤ length cs
-  pub worded : used ≤ length ws
-  pub rest : play_answer cs ws used n ≡ walk (slice i used cs) (slice i used ws) left
+pub record Playing (cs ws : List ℕ) (used n : ℕ) (here : Zip (Iter ℕ) (Iter ℕ)) (left : ℕ) : Type 0 where
+  pub rest : play_answer cs ws used n ≡ walk (iter_rest (zip_first here)) (iter_rest (zip_second here)) left
 
-pub playing_start : (cs ws : List ℕ) (used n : ℕ) → used ≤ length cs → used ≤ length ws → Playing cs ws used n 0 n
-playing_start cs ws used n k h = record { within = omega arith; counted = k; worded = h; rest = play_walk cs ws used n k h }
+walked_out : (xs ys : List ℕ) (n : ℕ) → (xs ≡ []) ⊎ (ys ≡ []) → walk xs ys n ≡ played_nothing 19
+unfolding walk
+walked_out [] ys n h = refl
+walked_out (x ∷ xs) [] n h = refl
+walked_out (x ∷ xs) (y ∷ ys) n (inl h) = cc
+walked_out (x ∷ xs) (y ∷ ys) n (inr h) = cc
 
-module _ {cs ws : List ℕ} {used n i left : ℕ} (p : Playing cs ws used n i left) where
-  playing_cons :
-      i < used →
-      play_answer cs ws used n ≡
-      cond (ltb left (get_or cs i 0)) (played_word (get_or ws i 0)) (walk (slice (i + 1) used cs) (slice (i + 1) used ws) (left - get_or cs i 0))
-  unfolding walk
-  playing_cons h = p.rest ∙ rw (add-one i, slice-cons i used cs 0 h p.counted, slice-cons i used ws 0 h p.worded)
+module _
+    {cs ws : List ℕ} {used n left : ℕ} {here : Zip (Iter ℕ) (Iter ℕ)} (v : Playing cs ws used n here left)
+    (after : Zip (Iter ℕ) (Iter ℕ)) {r : Option (Bor ℕ × Bor ℕ)} (steps : zips fronts fronts here r after)
+  where
+    module _ {x : Bor ℕ × Bor ℕ} (e : r ≡ Some x) where
+      playing_more :
+          play_answer cs ws used n ≡
+          cond (ltb left x.0.now) (played_word x.1.now) (walk (iter_rest (zip_first after)) (iter_rest (zip_second after)) (left - x.0.now))
+      unfolding walk
+      playing_more = let next = Zip-more here after r x e steps in v.rest ∙ rw (next.0, next.1)
 
-  pub playing_here : i < used → left < get_or cs i 0 → played_word (get_or ws i 0) ≡ play_answer cs ws used n
-  playing_here h l = sym (playing_cons h ∙ rw (lt-ltb left (get_or cs i 0) l))
+      pub playing_here : left < x.0.now → played_word x.1.now ≡ play_answer cs ws used n
+      playing_here l = sym (playing_more ∙ rw (lt-ltb left x.0.now l))
 
-  pub playing_on : i < used → get_or cs i 0 ≤ left → Playing cs ws used n (i + 1) (left - get_or cs i 0)
-  playing_on h l =
-      record { within = omega arith; counted = p.counted; worded = p.worded; rest = playing_cons h ∙ rw (le-ltb left (get_or cs i 0) l) }
+      pub playing_on : x.0.now ≤ left → Playing cs ws used n after (left - x.0.now)
+      playing_on l = record { rest = playing_more ∙ rw (le-ltb left x.0.now l) }
 
-  pub playing_end : used ≤ i → played_nothing 19 ≡ play_answer cs ws used n
-  unfolding walk
-  playing_end h =
-      let w : i ≤ used = p.within in
-      let e : i ≡ used = omega arith in
-      sym (p.rest ∙ rw (e, slice_empty used cs))
+    pub playing_end : r ≡ None → played_nothing 19 ≡ play_answer cs ws used n
+    playing_end e = sym (v.rest ∙ walked_out _ _ left (either_empty_from_Zip here after r e steps))
 
 -- ---- a player of words
 

@@ -3,20 +3,25 @@
 use Prim.Native.Nat.{ℕ, ◌+◌, ◌*◌, ◌≤◌, ◌<◌, ◌^◌, min}
 use native.Mathlib.Omega.{arith}
 use mathlib.Core.Path.{◌≡◌, refl, ap, ◌∙◌}
+use Rattle.std.specs.Prelude.{Result, Ok, Err, IsErrAnd, MatchResult}
 use mathlib.Core.List.{List, ◌++◌}
 use borrow.Author.Tests.{eq-eqb, ne_eqb, eqb-true, eqb-false}
 use lib.Dec.{eqb}
 use lib.ListN.{length, get_or, drop, length-append, length-map, get_or-append}
 use Rattle.profile.specs.Lists.{over}
 use Rattle.profile.specs.Script.{read_script}
+use Rattle.profile.specs.Refusals.{verdict_of, read_told}
+use Rattle.profile.specs.declared.Verdict.{Verdict}
+use Rattle.profile.specs.declared.refusal.Refusal.{Refusal}
+use Rattle.profile.proofs.Refusing.{none_accepts}
 use Rattle.profile.specs.declared.Profile.{Profile}
 use Rattle.profile.specs.declared.Ruleset.{Ruleset}
-use Rattle.profile.specs.declared.ReadAnswer.{ReadAnswer}
 use Rattle.profile.proofs.Laws.{by_cases, chunks_ext}
-use Rattle.holdlist.specs.declared.Compiled.{Compiled}
+use Rattle.holdlist.specs.declared.ListSize.{ListSize}
+use Rattle.holdlist.specs.Demand.{Compiled}
 use Rattle.holdlist.specs.Runs.{step_count, step_word, step_counts, step_words}
-use Rattle.holdlist.specs.Compile.{room_of, profile_words, field_runs, compile_answer, compile_counts, compile_words, Compiles}
-use Rattle.holdlist.specs.Text.{head_line, step_line_at, listing, refused_line, printed_answer, printed_of, printed, Puts, PutsText}
+use Rattle.holdlist.specs.Compile.{room_of, profile_words, field_runs, compile_told, compile_answer, compile_counts, compile_words, Compiles}
+use Rattle.holdlist.specs.Text.{head_line, step_line_at, listing, refused_line, printed_answer, told_text, printed_of, printed, Puts, PutsText}
 use Rattle.holdlist.proofs.Demanded.{compile_cases}
 use Rattle.holdlist.proofs.Spelling.{Wide, listing-length, refused-length}
 
@@ -76,18 +81,28 @@ answer_runs rules p cs ws =
 
 -- ---- what is printed for a script
 
-pub printed-refused :
-    (rules : Ruleset) (script : List ℕ) (a : ReadAnswer) → a ≡ read_script rules script → (a.verdict.number ≡ 0 → ⊥) →
-    refused_line a.verdict ≡ printed rules script
+pub printed-refused : (rules : Ruleset) (script : List ℕ) (refusal : Refusal) {v : Verdict} → v ≡ verdict_of refusal
+    → read_told (Err refusal) ≡ read_script rules script → refused_line v ≡ printed rules script
 unfolding printed
-printed-refused rules script a e n = rw (← e) (rw (ne_eqb a.verdict.number 0 n))
+printed-refused rules script refusal e r = rw (← r, none_accepts refusal, e)
+
+-- s is what a compile gave, its refusal as a verdict
+abbrev pub Told : Result ListSize Refusal → Result ListSize Verdict → Type 0
+Told r s = MatchResult r (λ size. s ≡ Ok size) (λ refusal. IsErrAnd s (λ v. v ≡ verdict_of refusal))
+
+told_answer : (r : Result ListSize Refusal) (s : Result ListSize Verdict) (cs ws : List ℕ) → Told r s → told_text s cs ws ≡ printed_answer (compile_told r) cs ws
+unfolding printed_answer
+told_answer (Ok size) s cs ws t = rw t refl
+told_answer (Err refusal) (Ok size) cs ws t = absurd t
+told_answer (Err refusal) (Err v) cs ws t = rw (t, none_accepts refusal)
 
 pub printed_told :
-    (rules : Ruleset) (script : List ℕ) (a : ReadAnswer) {r : Compiled} {cs ws cs' ws' : List ℕ} → a ≡ read_script rules script → a.verdict.number ≡ 0 →
-    room_of cs ws ≡ 4096 → Compiles rules a.profile cs ws r cs' ws' → printed_answer r cs' ws' ≡ printed rules script
+    (rules : Ruleset) (script : List ℕ) (p : Profile) (r : Result ListSize Refusal) (s : Result ListSize Verdict) {cs ws cs' ws' : List ℕ} →
+    read_told (Ok p) ≡ read_script rules script → room_of cs ws ≡ 4096 → Compiles rules p cs ws (compile_told r) cs' ws' → Told r s →
+    told_text s cs' ws' ≡ printed rules script
 unfolding printed printed_of
-printed_told rules script a {cs = cs} {ws = ws} e z m c =
-    rw (c.answer, c.counts, c.words) (answer_runs rules a.profile cs ws ∙ rw (m, ← e) (rw (eq-eqb a.verdict.number 0 z)))
+printed_told rules script p r s {cs = cs} {ws = ws} {cs' = cs'} {ws' = ws'} e m c t =
+    told_answer r s cs' ws' t ∙ rw (c.answer, c.counts, c.words) (answer_runs rules p cs ws ∙ rw (m, ← e))
 
 -- a text that is printed for a script, put
 pub puts_text : {rules : Ruleset} {script b l l' : List ℕ} {at next : ℕ} → Puts b l at next l' → b ≡ printed rules script → length b ≤ 55 + 16 * 4096

@@ -20,7 +20,7 @@ use Rattle.profile.specs.Records.{unread, taken, Reads}
 use Rattle.profile.specs.declared.Profile.{Profile}
 use Rattle.profile.specs.declared.Ruleset.{Ruleset}
 use Rattle.profile.specs.declared.Verdict.{Verdict}
-use Rattle.profile.specs.declared.ReadAnswer.{ReadAnswer}
+use Rattle.profile.specs.Values.{ReadAnswer}
 use Rattle.profile.proofs.Laws.{by_cases}
 use Rattle.profile.proofs.Accepted.{accepted-field}
 use Rattle.profile.proofs.Reading.{read_refused, read_accepted, read_verdict}

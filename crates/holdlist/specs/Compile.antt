@@ -1,17 +1,24 @@
 -- What compiling answers, and leaves in the two lent lists: of any list of words, and of a profile's field.
 -- Assumes nothing.
-use Rattle.std.specs.Prelude.{ℕ, min, ◌≡◌, List, cond, length, leb}
+use Rattle.std.specs.Prelude.{ℕ, min, ◌≡◌, List, cond, length, leb, Result, Ok, Err}
 use Rattle.profile.specs.Lists.{over}
 use Rattle.profile.specs.Values.{accepted, refused, accepts}
+use Rattle.profile.specs.Refusals.{verdict_of}
 use Rattle.profile.specs.Rules.{check_profile}
 use Rattle.profile.specs.declared.Profile.{Profile}
 use Rattle.profile.specs.declared.Verdict.{Verdict}
 use Rattle.profile.specs.declared.Ruleset.{Ruleset}
+use Rattle.profile.specs.declared.refusal.Refusal.{Refusal}
 use Rattle.level.specs.Fieldwords.{field_words}
 use Rattle.holdlist.specs.declared.Step.{Step}
-use Rattle.holdlist.specs.declared.Compiled.{Compiled}
+use Rattle.holdlist.specs.declared.ListSize.{ListSize}
 use Rattle.holdlist.specs.Runs.{runs, step_counts, step_words}
-use Rattle.holdlist.specs.Demand.{Demand}
+use Rattle.holdlist.specs.Demand.{Compiled, Demand}
+
+-- what a compile says: the steps and the pixels, or its refusal's verdict and zeros
+abbrev pub compile_told : Result ListSize Refusal → Compiled
+compile_told (Ok size) = record { verdict = accepted; steps = size.steps; pixels = size.pixels }
+compile_told (Err refusal) = record { verdict = verdict_of refusal; steps = 0; pixels = 0 }
 
 -- "room is the shorter length"
 abbrev pub room_of : List ℕ → List ℕ → ℕ

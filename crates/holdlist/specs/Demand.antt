@@ -5,10 +5,10 @@ use Rattle.std.specs.Prelude.{ℕ, ◌≤◌, ◌<◌, ◌^◌, min, ◌≡◌, 
 use Rattle.profile.specs.Geometry.{pixel_count}
 use Rattle.profile.specs.declared.Tables.{Tables}
 use Rattle.profile.specs.declared.Field.{Field}
+use Rattle.profile.specs.declared.Verdict.{Verdict}
 use Rattle.level.specs.Line.{line_of}
 use Rattle.level.specs.Word.{word_of}
 use Rattle.level.specs.Place.{line_at, pixel_at}
-use Rattle.holdlist.specs.declared.Compiled.{Compiled}
 use Rattle.holdlist.specs.Play.{play_answer, played_word, played_nothing}
 
 -- "with all its steps used, position n shows the word of field pixel n for every n below the field's pixel count .., and every other position is
@@ -27,6 +27,12 @@ pub record Fewest (xs : List ℕ) (k : ℕ) : Type 0 where
   pub words_fit : (i : ℕ) → get_or words i 0 < 2 ^ 16
   pub reached : Plays xs counts words k
   pub least : (cs ws : List ℕ) (used : ℕ) → Plays xs cs ws used → k ≤ used
+
+-- what a compile answers, in the rule book's numbers
+pub record Compiled : Type 0 where
+  pub verdict : Verdict
+  pub steps : ℕ
+  pub pixels : ℕ
 
 -- r is answered for the words xs where the lists are cs and ws, which are cs' and ws' then
 pub record Demand (xs cs ws : List ℕ) (r : Compiled) (cs' ws' : List ℕ) : Type 0 where

@@ -1,8 +1,15 @@
 -- A hold list is a list of counts beside a list of words: step i shows words[i] for counts[i] positions.
 -- Assumes nothing.
-use Rattle.std.specs.Prelude.{ℕ, ◌-◌, List, [], ◌∷◌, ◌++◌, cond, ◌&&◌, length, take, replicate, ltb, leb}
+use Rattle.std.specs.Prelude.{ℕ, ◌-◌, List, [], ◌∷◌, ◌++◌, cond, ◌&&◌, length, take, replicate, ltb, leb, Result, Ok, Err}
 use Rattle.profile.specs.Values.{accepted, refused}
-use Rattle.holdlist.specs.declared.Played.{Played}
+use Rattle.profile.specs.Refusals.{verdict_of}
+use Rattle.profile.specs.declared.Verdict.{Verdict}
+use Rattle.profile.specs.declared.refusal.Refusal.{Refusal}
+
+-- what a play answers, in the rule book's numbers
+pub record Played : Type 0 where
+  pub verdict : Verdict
+  pub word : ℕ
 
 abbrev pub played_word : ℕ → Played
 played_word w = record { verdict = accepted; word = w }
@@ -10,6 +17,11 @@ played_word w = record { verdict = accepted; word = w }
 -- "a refused .. play gives word 0"
 abbrev pub played_nothing : ℕ → Played
 played_nothing number = record { verdict = refused number 0; word = 0 }
+
+-- what a play says: the word, or its refusal's verdict and 0
+abbrev pub play_told : Result ℕ Refusal → Played
+play_told (Ok word) = played_word word
+play_told (Err refusal) = record { verdict = verdict_of refusal; word = 0 }
 
 -- "position n shows the word of the step in which the running sum first exceeds n; where no step's does, 19"
 unfoldable pub walk : List ℕ → List ℕ → ℕ → Played

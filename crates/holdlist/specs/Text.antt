@@ -1,7 +1,7 @@
 -- What the program prints, in ASCII: "`steps S pixels P`, then each step as decimal count, space, four upper-case hex digits; or `refused N P` alone; LF
 -- ends each line"; and "`refused 10 P O T`".
 -- Assumes nothing.
-use Rattle.std.specs.Prelude.{ℕ, zero, suc, ◌+◌, ◌*◌, ◌-◌, ◌/◌, ◌%◌, ◌≤◌, min, max, ◌≡◌, List, [], ◌∷◌, ◌++◌, cond, length, get_or, ltb, eqb}
+use Rattle.std.specs.Prelude.{ℕ, zero, suc, ◌+◌, ◌*◌, ◌-◌, ◌/◌, ◌%◌, ◌≤◌, min, max, ◌≡◌, List, [], ◌∷◌, ◌++◌, cond, length, get_or, ltb, eqb, Result, Ok, Err}
 use Rattle.std.proofs.lemmas.List.Edits.{sets}
 use Rattle.profile.specs.Lists.{chunks}
 use Rattle.profile.specs.Values.{accepts}
@@ -9,7 +9,8 @@ use Rattle.profile.specs.Script.{read_script}
 use Rattle.profile.specs.declared.Profile.{Profile}
 use Rattle.profile.specs.declared.Verdict.{Verdict}
 use Rattle.profile.specs.declared.Ruleset.{Ruleset}
-use Rattle.holdlist.specs.declared.Compiled.{Compiled}
+use Rattle.holdlist.specs.declared.ListSize.{ListSize}
+use Rattle.holdlist.specs.Demand.{Compiled}
 use Rattle.holdlist.specs.Runs.{step_counts, step_words}
 use Rattle.holdlist.specs.Compile.{field_runs, room_of, compile_answer}
 
@@ -103,10 +104,15 @@ pub record Puts (bytes old : List ℕ) (at next : ℕ) (new : List ℕ) : Type 0
   pub stored : new ≡ sets old at bytes
   pub ended : next ≡ max at (min (at + length bytes) (length old))
 
--- what is printed of a compile's answer and its lists is stored: at most a head line and 16 bytes a step
-pub record PutsPrinted (c : Compiled) (cs ws old : List ℕ) (at next : ℕ) (new : List ℕ) : Type 0 where
-  pub puts : Puts (printed_answer c cs ws) old at next new
-  pub short : length (printed_answer c cs ws) ≤ 55 + 16 * room_of cs ws
+-- a list's size or a refusal's verdict, beside the two lists
+abbrev pub told_text : Result ListSize Verdict → List ℕ → List ℕ → List ℕ
+told_text (Ok size) cs ws = listing size.steps size.pixels cs ws
+told_text (Err verdict) cs ws = refused_line verdict
+
+-- what is printed of a compile and its lists is stored: at most a head line and 16 bytes a step
+pub record PutsPrinted (told : Result ListSize Verdict) (cs ws old : List ℕ) (at next : ℕ) (new : List ℕ) : Type 0 where
+  pub puts : Puts (told_text told cs ws) old at next new
+  pub short : length (told_text told cs ws) ≤ 55 + 16 * room_of cs ws
 
 -- and what is printed for a script by the rules, of at most 4,096 steps
 pub record PutsText (rules : Ruleset) (script old : List ℕ) (at next : ℕ) (new : List ℕ) : Type 0 where

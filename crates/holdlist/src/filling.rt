@@ -1,4 +1,6 @@
 // Words pushed onto the open step: a line's, a region's, a field's. A line's are made by one of two engines, and what both promise is the same.
+// What a field has to have, and that an open step can take its words, is asked from the field down to the line, each time of less.
+// Each of the four loops goes over something else, and what is left of the two lists is lent anew in each round.
 ghost use Rattle.std.specs.Prelude.{◌≡◌, ◌+◌, ◌<◌, ◌≤◌, ◌^◌, length};
 ghost use Rattle.profile.specs.Geometry.{region_count};
 ghost use Rattle.level.specs.Fieldwords.{line_words, field_words};
@@ -6,102 +8,85 @@ ghost use Rattle.holdlist.specs.Runs.{runs};
 ghost use Rattle.holdlist.specs.Fills.{Fillable, region_words, Writes, Fills};
 
 use crate::Step;
-use crate::steps::{Filled, finish, hold, least};
+use crate::steps::{Filled, finish, free_from, hold};
 use level::{Line, fill, line_on, stretches, strip_of};
 use profile::{Field, Tables, end_line, region_at, region_count};
 
-// How the words of a line are made: at each pixel, or from edge to edge.
-#[derive(Clone, Copy)]
-pub(crate) enum Engine {
-    Pixels,
-    Edges,
+// How the words of a line are made: at each pixel, or from edge to edge. The buffers lent, made once a region, are for where
+// stretches end and for the words; an engine leaves what it has no use for.
+pub(crate) trait Engine {
+    // A line is pushed onto the open step.
+    fn fill_line(
+        line: Line,
+        o: Step,
+        ends: &mut [u16; 4095],
+        shown: &mut [u16; 4095],
+        counts: &mut [u32],
+        words: &mut [u16],
+    ) -> Filled
+        requires length_bound { line.length ≤ 4095 }
+        requires length_bound_2 { o.count + line.length < 2 ^ 32 }
+        ensures { Fills o (line_words line line.length) counts.old words.old result.steps result.held counts.new words.new };
 }
 
-// A line is pushed pixel by pixel; its words are made in a lent buffer.
-fn fill_pixels(
-    line: Line,
-    o: Step,
-    shown: &mut [u16; 4095],
-    counts: &mut [u32],
-    words: &mut [u16],
-) -> Filled
-    requires length_bound { line.length ≤ 4095 }
-    requires length_bound_2 { o.count + line.length < 2 ^ 32 }
-    ensures { Fills o (line_words line line.length) counts.old words.old result.steps result.held counts.new words.new }
-{
-    fill(line, shown);
-    let mut held = o;
-    let mut used: usize = 0;
-    let mut p: u16 = 0;
-    while p < line.length {
-        let i = p as usize;
-        let c = least(used, counts.len());
-        let d = least(used, words.len());
-        let r = hold(held, shown[i], 1, &mut counts[c..], &mut words[d..]);
-        let next = r.held;
-        held = next;
-        used += r.steps;
-        p += 1;
+pub(crate) struct Pixels;
+
+pub(crate) struct Edges;
+
+// A word is held for each pixel.
+impl Engine for Pixels {
+    fn fill_line(
+        line: Line,
+        o: Step,
+        _ends: &mut [u16; 4095],
+        shown: &mut [u16; 4095],
+        counts: &mut [u32],
+        words: &mut [u16],
+    ) -> Filled {
+        fill(line, shown);
+        let mut filled = Filled { steps: 0, held: o };
+        for &word in &shown[..usize::from(line.length)] {
+            let (c, d) = free_from(filled.steps, counts, words);
+            let next = hold(filled.held, word, 1, &mut counts[c..], &mut words[d..]);
+            filled.steps += next.steps;
+            filled.held = next.held;
+        }
+        filled
     }
-    Filled { steps: used, held }
 }
 
-// A line is pushed from stop to stop, each stretch held as one; where they end, and their words, are made in two lent buffers.
-fn fill_edges(
-    line: Line,
-    o: Step,
-    ends: &mut [u16; 4095],
-    shown: &mut [u16; 4095],
-    counts: &mut [u32],
-    words: &mut [u16],
-) -> Filled
-    requires length_bound { line.length ≤ 4095 }
-    requires length_bound_2 { o.count + line.length < 2 ^ 32 }
-    ensures { Fills o (line_words line line.length) counts.old words.old result.steps result.held counts.new words.new }
-{
-    stretches(line, ends, shown);
-    let mut held = o;
-    let mut used: usize = 0;
-    let mut p: u16 = 0;
-    let mut k: usize = 0;
-    while p < line.length {
-        let stop = ends[k];
-        let times = (stop - p) as u32;
-        let c = least(used, counts.len());
-        let d = least(used, words.len());
-        let r = hold(held, shown[k], times, &mut counts[c..], &mut words[d..]);
-        let next = r.held;
-        held = next;
-        used += r.steps;
-        p = stop;
-        k += 1;
-    }
-    Filled { steps: used, held }
-}
-
-// A line is pushed by one of the engines.
-fn fill_line(
-    engine: Engine,
-    line: Line,
-    o: Step,
-    ends: &mut [u16; 4095],
-    shown: &mut [u16; 4095],
-    counts: &mut [u32],
-    words: &mut [u16],
-) -> Filled
-    requires length_bound { line.length ≤ 4095 }
-    requires length_bound_2 { o.count + line.length < 2 ^ 32 }
-    ensures { Fills o (line_words line line.length) counts.old words.old result.steps result.held counts.new words.new }
-{
-    match engine {
-        Engine::Pixels => fill_pixels(line, o, shown, counts, words),
-        Engine::Edges => fill_edges(line, o, ends, shown, counts, words),
+// Each stretch is held as one.
+impl Engine for Edges {
+    fn fill_line(
+        line: Line,
+        o: Step,
+        ends: &mut [u16; 4095],
+        shown: &mut [u16; 4095],
+        counts: &mut [u32],
+        words: &mut [u16],
+    ) -> Filled {
+        let n = stretches(line, ends, shown);
+        let mut filled = Filled { steps: 0, held: o };
+        let mut start: u16 = 0;
+        for (&end, &word) in ends[..n].iter().zip(&shown[..n]) {
+            let (c, d) = free_from(filled.steps, counts, words);
+            let next = hold(
+                filled.held,
+                word,
+                u32::from(end - start),
+                &mut counts[c..],
+                &mut words[d..],
+            );
+            filled.steps += next.steps;
+            filled.held = next.held;
+            start = end;
+        }
+        filled
     }
 }
 
 // Region i is pushed line by line: its writer gets the open step, and what is free of both lists after the steps already used.
-fn fill_region(
-    engine: Engine,
+fn fill_region<E: Engine>(
     version: u16,
     tables: Tables,
     field: Field,
@@ -115,39 +100,29 @@ fn fill_region(
     requires i_bound_2 { o.count + length (region_words version tables field i) < 2 ^ 32 }
     ensures { Fills o (region_words version tables field i) counts.old words.old result.steps result.held counts.new words.new }
 {
-    let region = region_at(field, i);
-    let first = region.first;
-    let n = end_line(field, i) - first;
     let strip = strip_of(version, tables, field, i);
-    let mut ends = [0u16; 4095];
-    let mut shown = [0u16; 4095];
-    let mut held = o;
-    let mut used: usize = 0;
-    let mut k: u16 = 0;
-    while k < n {
-        let line = line_on(strip, first + k);
-        let c = least(used, counts.len());
-        let d = least(used, words.len());
-        let r = fill_line(
-            engine,
+    let mut ends = [0; 4095];
+    let mut shown = [0; 4095];
+    let mut filled = Filled { steps: 0, held: o };
+    for number in region_at(field, i).first..end_line(field, i) {
+        let line = line_on(strip, number);
+        let (c, d) = free_from(filled.steps, counts, words);
+        let next = E::fill_line(
             line,
-            held,
+            filled.held,
             &mut ends,
             &mut shown,
             &mut counts[c..],
             &mut words[d..],
         );
-        let next = r.held;
-        held = next;
-        used += r.steps;
-        k += 1;
+        filled.steps += next.steps;
+        filled.held = next.held;
     }
-    Filled { steps: used, held }
+    filled
 }
 
 // All regions in order, pushed onto the open step.
-fn fill_regions(
-    engine: Engine,
+fn fill_regions<E: Engine>(
     version: u16,
     tables: Tables,
     field: Field,
@@ -159,34 +134,26 @@ fn fill_regions(
     requires field_bound { o.count + length (field_words version tables field) < 2 ^ 32 }
     ensures { Fills o (field_words version tables field) counts.old words.old result.steps result.held counts.new words.new }
 {
-    let n = region_count(field);
-    let mut held = o;
-    let mut used: usize = 0;
-    let mut i: usize = 0;
-    while i < n {
-        let c = least(used, counts.len());
-        let d = least(used, words.len());
-        let r = fill_region(
-            engine,
+    let mut filled = Filled { steps: 0, held: o };
+    for i in 0..region_count(field) {
+        let (c, d) = free_from(filled.steps, counts, words);
+        let next = fill_region::<E>(
             version,
             tables,
             field,
             i,
-            held,
+            filled.held,
             &mut counts[c..],
             &mut words[d..],
         );
-        let next = r.held;
-        held = next;
-        used += r.steps;
-        i += 1;
+        filled.steps += next.steps;
+        filled.held = next.held;
     }
-    Filled { steps: used, held }
+    filled
 }
 
 // The whole field, its last step closed: written as far as there is room, and always counted.
-pub(crate) fn fill_field(
-    engine: Engine,
+pub(crate) fn fill_field<E: Engine>(
     version: u16,
     tables: Tables,
     field: Field,
@@ -197,10 +164,7 @@ pub(crate) fn fill_field(
     ensures { Writes (runs (field_words version tables field)) counts.old words.old result counts.new words.new }
 {
     let empty = Step { count: 0, word: 0 };
-    let filled = fill_regions(engine, version, tables, field, empty, counts, words);
-    let used = filled.steps;
-    let held = filled.held;
-    let c = least(used, counts.len());
-    let d = least(used, words.len());
-    used + finish(held, &mut counts[c..], &mut words[d..])
+    let filled = fill_regions::<E>(version, tables, field, empty, counts, words);
+    let (c, d) = free_from(filled.steps, counts, words);
+    filled.steps + finish(filled.held, &mut counts[c..], &mut words[d..])
 }

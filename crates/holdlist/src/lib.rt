@@ -1,7 +1,5 @@
-// Hold lists: u32 counts beside u16 words. A field is compiled into the shortest list that plays it.
+// Hold lists: u32 counts beside u16 words, two lists, for so they are lent. A field is compiled into the shortest list that plays it.
 #![tactic(auto)]
-
-use profile::Verdict;
 
 mod answering;
 mod compiling;
@@ -25,15 +23,9 @@ pub struct Step {
     pub word: u16,
 }
 
+// How many steps a list has, and how many pixels they hold.
 #[derive(Clone, Copy)]
-pub struct Played {
-    pub verdict: Verdict,
-    pub word: u16,
-}
-
-#[derive(Clone, Copy)]
-pub struct Compiled {
-    pub verdict: Verdict,
+pub struct ListSize {
     pub steps: usize,
     pub pixels: u64,
 }

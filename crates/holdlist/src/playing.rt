@@ -1,47 +1,26 @@
 // Playing a hold list.
 ghost use Rattle.std.specs.Prelude.{◌≡◌};
-ghost use Rattle.holdlist.specs.Play.{played_word, played_nothing, play_answer};
+ghost use Rattle.holdlist.specs.Play.{play_told, play_answer};
 
-use crate::Played;
-use profile::{accept, refuse};
-
-fn played_word(word: u16) -> Played
-    ensures { result ≡ played_word word }
-{
-    Played {
-        verdict: accept(),
-        word,
-    }
-}
-
-fn played_nothing(number: u16) -> Played
-    ensures { result ≡ played_nothing number }
-{
-    Played {
-        verdict: refuse(number, 0),
-        word: 0,
-    }
-}
+use profile::Refusal;
 
 // The word that the first `used` steps show at a position: 20 where a list has fewer, then 19 where the steps end before the position.
-pub fn play(counts: &[u32], words: &[u16], used: usize, position: u64) -> Played
-    ensures { result ≡ play_answer counts.now words.now used position }
+pub fn play(counts: &[u32], words: &[u16], used: usize, position: u64) -> Result<u16, Refusal>
+    ensures { play_told result ≡ play_answer counts.now words.now used position }
 {
     if counts.len() < used {
-        return played_nothing(20);
+        return Err(Refusal::NoStep);
     }
     if words.len() < used {
-        return played_nothing(20);
+        return Err(Refusal::NoStep);
     }
     let mut left = position;
-    let mut i: usize = 0;
-    while i < used {
-        let count = counts[i] as u64;
+    for (&count, &word) in counts[..used].iter().zip(&words[..used]) {
+        let count = u64::from(count);
         if left < count {
-            return played_word(words[i]);
+            return Ok(word);
         }
         left -= count;
-        i += 1;
     }
-    played_nothing(19)
+    Err(Refusal::NoPixel)
 }

@@ -1,7 +1,8 @@
-// Steps written into the free rest of two lists, as far as there is room, and counted. An open step of count 0 is none.
-ghost use Rattle.std.specs.Prelude.{◌≡◌, [], ◌∷◌, ◌+◌, ◌<◌, ◌^◌, min, replicate};
+// Steps written into the free rest of two lists, as far as there is room, and counted. An open step of count 0 is none:
+// no Option, for a word joins it or begins the next step by the same two tests.
+ghost use Rattle.std.specs.Prelude.{◌≡◌, ◌+◌, ◌<◌, ◌^◌, length, min, replicate, slice_set};
 ghost use Rattle.holdlist.specs.Runs.{flush};
-ghost use Rattle.holdlist.specs.Fills.{over_fit, Writes, Fills};
+ghost use Rattle.holdlist.specs.Fills.{Writes, Fills};
 
 use crate::Step;
 
@@ -12,26 +13,20 @@ pub struct Filled {
     pub held: Step,
 }
 
-pub(crate) fn least(a: usize, b: usize) -> usize
-    ensures { result ≡ min a b }
+// Where the rest of both lists begins that is free after the steps already used.
+pub(crate) fn free_from(used: usize, counts: &[u32], words: &[u16]) -> (usize, usize)
+    ensures in_counts { result.0 ≡ min used (length counts.now) }
+    ensures in_words { result.1 ≡ min used (length words.now) }
 {
-    if a < b { a } else { b }
+    (used.min(counts.len()), used.min(words.len()))
 }
 
 // A number at the front of a list, where the list has a place.
-fn put_count(counts: &mut [u32], count: u32)
-    ensures { counts.new ≡ over_fit (count ∷ []) counts.old }
+fn put_first<T: Copy>(list: &mut [T], x: T)
+    ensures { list.new ≡ slice_set list.old 0 x }
 {
-    if 0 < counts.len() {
-        counts[0] = count;
-    }
-}
-
-fn put_word(words: &mut [u16], word: u16)
-    ensures { words.new ≡ over_fit (word ∷ []) words.old }
-{
-    if 0 < words.len() {
-        words[0] = word;
+    if let Some(first) = list.first_mut() {
+        *first = x;
     }
 }
 
@@ -42,8 +37,8 @@ pub(crate) fn finish(o: Step, counts: &mut [u32], words: &mut [u16]) -> usize
     if o.count == 0 {
         return 0;
     }
-    put_count(counts, o.count);
-    put_word(words, o.word);
+    put_first(counts, o.count);
+    put_first(words, o.word);
     1
 }
 
@@ -53,19 +48,18 @@ pub(crate) fn hold(o: Step, word: u16, times: u32, counts: &mut [u32], words: &m
     ensures { Fills o (replicate times word) counts.old words.old result.steps result.held counts.new words.new }
 {
     if o.word == word {
-        let joined = Step {
-            count: o.count + times,
-            word,
-        };
+        let count = o.count + times;
         return Filled {
             steps: 0,
-            held: joined,
+            held: Step { count, word },
         };
     }
     if times == 0 {
         return Filled { steps: 0, held: o };
     }
     let steps = finish(o, counts, words);
-    let begun = Step { count: times, word };
-    Filled { steps, held: begun }
+    Filled {
+        steps,
+        held: Step { count: times, word },
+    }
 }

@@ -1,10 +1,10 @@
 // The text that the program prints, put into a lent slice from a place on. What has no room is left out.
-// Each function gives the place after what it put.
+// Each function gives the place after what it put. Slice and place go side by side: a struct that held both would have to say in each function,
+// in a clause of its own, that it still holds this slice.
 ghost use Rattle.std.specs.Prelude.{◌≡◌, [], ◌∷◌, ◌<◌, length, drop};
 ghost use Rattle.holdlist.specs.Text.{digit as digitText, decimal, hex_digit, hex2, hex4, head_line, step_line, toggle_text, refused_line, listing, Puts, PutsPrinted};
 
-use crate::Compiled;
-use crate::steps::least;
+use crate::ListSize;
 use profile::Verdict;
 
 // One byte.
@@ -24,10 +24,8 @@ pub fn put_bytes(out: &mut [u8], at: usize, bytes: &[u8]) -> usize
     ensures { Puts bytes.now out.old at result out.new }
 {
     let mut to = at;
-    let mut i: usize = 0;
-    while i < bytes.len() {
-        to = put_byte(out, to, bytes[i]);
-        i += 1;
+    for &byte in bytes {
+        to = put_byte(out, to, byte);
     }
     to
 }
@@ -39,15 +37,16 @@ fn digit(n: u64) -> u8
     48 + n as u8
 }
 
-// A number's digits at the end of an array, and where they begin there.
-fn spell(n: u64, digits: &mut [u8]) -> usize
-    requires { length digits.old ≡ 20 }
+// A number's digits at the end of an array, and where they begin there. By hand: of what `write!` puts it is proved that it can be read back,
+// and here each byte is said.
+fn spell(n: u64, digits: &mut [u8; 20]) -> usize
     ensures upper_bound { result < 20 }
     ensures digits_after { drop result digits.new ≡ decimal n }
 {
     let mut from: usize = 19;
     let mut rest = n / 10;
     digits[19] = digit(n % 10);
+    // A while loop: it goes from the last digit to the first, as long as a rest is left, and not over each place.
     while 0 < rest {
         from -= 1;
         digits[from] = digit(rest % 10);
@@ -86,11 +85,12 @@ pub fn put_hex4(out: &mut [u8], at: usize, word: u16) -> usize
 pub fn put_hex2(out: &mut [u8], at: usize, byte: u8) -> usize
     ensures { Puts (hex2 byte) out.old at result out.new }
 {
-    let n = byte as u16;
+    let n = u16::from(byte);
     let digits = [hex_digit(n / 16), hex_digit(n % 16)];
     put_bytes(out, at, &digits)
 }
 
+// Numbers of a line come one by one: the lists that are told keep counts and words apart.
 pub fn put_head_line(out: &mut [u8], at: usize, steps: usize, pixels: u64) -> usize
     ensures { Puts (head_line steps pixels) out.old at result out.new }
 {
@@ -98,16 +98,16 @@ pub fn put_head_line(out: &mut [u8], at: usize, steps: usize, pixels: u64) -> us
     let b = put_decimal(out, a, steps as u64);
     let c = put_bytes(out, b, b" pixels ");
     let d = put_decimal(out, c, pixels);
-    put_byte(out, d, 10)
+    put_byte(out, d, b'\n')
 }
 
 pub fn put_step_line(out: &mut [u8], at: usize, count: u32, word: u16) -> usize
     ensures { Puts (step_line count word) out.old at result out.new }
 {
-    let a = put_decimal(out, at, count as u64);
-    let b = put_byte(out, a, 32);
+    let a = put_decimal(out, at, u64::from(count));
+    let b = put_byte(out, a, b' ');
     let c = put_hex4(out, b, word);
-    put_byte(out, c, 10)
+    put_byte(out, c, b'\n')
 }
 
 // The output and the toggle that 10 names.
@@ -117,21 +117,21 @@ fn put_toggle(out: &mut [u8], at: usize, verdict: Verdict) -> usize
     if verdict.number != 10 {
         return at;
     }
-    let a = put_byte(out, at, 32);
-    let b = put_decimal(out, a, verdict.output as u64);
-    let c = put_byte(out, b, 32);
-    put_decimal(out, c, verdict.toggle as u64)
+    let a = put_byte(out, at, b' ');
+    let b = put_decimal(out, a, u64::from(verdict.output));
+    let c = put_byte(out, b, b' ');
+    put_decimal(out, c, u64::from(verdict.toggle))
 }
 
 pub fn put_refused_line(out: &mut [u8], at: usize, verdict: Verdict) -> usize
     ensures { Puts (refused_line verdict) out.old at result out.new }
 {
     let a = put_bytes(out, at, b"refused ");
-    let b = put_decimal(out, a, verdict.number as u64);
-    let c = put_byte(out, b, 32);
+    let b = put_decimal(out, a, u64::from(verdict.number));
+    let c = put_byte(out, b, b' ');
     let d = put_decimal(out, c, verdict.place);
     let e = put_toggle(out, d, verdict);
-    put_byte(out, e, 10)
+    put_byte(out, e, b'\n')
 }
 
 // The head line, and a line for each of the first steps of two lists, as many as both have.
@@ -145,12 +145,10 @@ pub fn put_listing(
 ) -> usize
     ensures { Puts (listing steps pixels counts.now words.now) out.old at result out.new }
 {
-    let n = least(steps, least(counts.len(), words.len()));
+    let n = steps.min(counts.len().min(words.len()));
     let mut to = put_head_line(out, at, steps, pixels);
-    let mut i: usize = 0;
-    while i < n {
-        to = put_step_line(out, to, counts[i], words[i]);
-        i += 1;
+    for (&count, &word) in counts[..n].iter().zip(&words[..n]) {
+        to = put_step_line(out, to, count, word);
     }
     to
 }
@@ -159,16 +157,14 @@ pub fn put_listing(
 pub fn put_printed(
     out: &mut [u8],
     at: usize,
-    answer: Compiled,
+    answer: Result<ListSize, Verdict>,
     counts: &[u32],
     words: &[u16],
 ) -> usize
     ensures { PutsPrinted answer counts.now words.now out.old at result out.new }
 {
-    let verdict = answer.verdict;
-    if verdict.number == 0 {
-        put_listing(out, at, answer.steps, answer.pixels, counts, words)
-    } else {
-        put_refused_line(out, at, verdict)
+    match answer {
+        Ok(size) => put_listing(out, at, size.steps, size.pixels, counts, words),
+        Err(verdict) => put_refused_line(out, at, verdict),
     }
 }

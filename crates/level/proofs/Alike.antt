@@ -6,9 +6,10 @@ use native.Mathlib.Nat.{mul-zero}
 use native.Mathlib.Omega.{arith}
 use mathlib.Core.Path.{◌≡◌, refl, sym, ap, ◌∙◌}
 use mathlib.Core.Logic.{◌⊎◌, inl, inr}
-use mathlib.Core.Bool.{Bool, true, cond, ◌&&◌}
+use mathlib.Core.Bool.{Bool, true, false, cond, ◌&&◌}
 use mathlib.Core.List.{[], ◌∷◌}
 use lib.Dec.{ltb, leb}
+use Rattle.std.specs.Bool.{then_some}
 use Rattle.profile.specs.Geometry.{region_at, region_of, sequence_of, region_pixels, line_length, repetitions}
 use Rattle.profile.specs.Rules.{has_second, second_of}
 use Rattle.profile.specs.Patterns.{pattern_of}
@@ -23,9 +24,10 @@ use Rattle.profile.specs.declared.Ruleset.{Ruleset}
 use Rattle.profile.proofs.Laws.{cond-case, by_cases, chunks_ext}
 use Rattle.profile.proofs.Alike.{check_alike}
 use Rattle.level.specs.Line.{on_gate_line, repeated, run_of, origin_of, line_with, line_of}
-use Rattle.level.specs.Word.{flipped, start_level, run_flips, run_toggles, run_level, carried_level, first_level, unmasked, shown_at, v_level, pulse_level, span_level, v_word, gate_word, word_of}
+use Rattle.level.specs.Word.{flipped, start_level, run_flips, run_toggles, run_level, carried_level, first_level, of_second, unmasked, shown_at, v_level, pulse_level, span_level, v_word, gate_word, word_of}
 use Rattle.level.specs.Fieldwords.{line_words, words_on_line, field_words}
 use Rattle.level.specs.Place.{locate_answer}
+use Rattle.level.proofs.Nexts.{clash}
 
 -- an output of a pattern that runs has no or two used toggles
 abbrev pub EvenUsed : Pattern → ℕ → Type 0
@@ -65,10 +67,12 @@ first_alike v w Plain a start r k q e = repeated-first v a start r k q e ∙ sym
 first_alike v w Sweep a start r k q e = repeated-first v a start r k q e ∙ sym (repeated-first w a start r k q e)
 first_alike v w Multiplier a start r k q e = refl
 
--- a choice of which one side is taken, or the other is the same
-chosen : (b : Bool) (s x y : ℕ) → (b ≡ true) ⊎ (x ≡ y) → cond b s x ≡ cond b s y
-chosen b s x y (inl e) = rw e
-chosen b s x y (inr e) = ap (cond b s) e
+-- the second pattern has taken over, or the first gives the same
+chosen : (acts : Bool) (a : Pattern) (p : ℕ) (s : Pattern → ℕ) (x y : ℕ) → (acts && leb a.length p ≡ true) ⊎ (x ≡ y)
+    → of_second (then_some acts a) p s x ≡ of_second (then_some acts a) p s y
+chosen true a p s x y (inl e) = rw e
+chosen false a p s x y (inl e) = absurd (clash e refl)
+chosen acts a p s x y (inr e) = ap (of_second (then_some acts a) p s) e
 
 module _ (t : Tables) (f : Field) (line : ℕ) where
   abbrev mode : Mode
@@ -94,7 +98,7 @@ module _ (t : Tables) (f : Field) (line : ℕ) where
     unfolding line_of line_with
     unmasked-alike k p h =
         by_cases (ltb line f.lines)
-        (λ e. rw e (chosen (second p) _ _ _ (either h)))
+        (λ e. rw e (chosen (has_second f && on_gate_line f line) (second_of t f) p _ _ _ (either h)))
         (λ e. rw e)
       where
         either : Same k p

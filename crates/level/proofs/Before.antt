@@ -7,6 +7,7 @@ use mathlib.Core.Bool.{cond, ◌&&◌}
 use mathlib.Core.List.{List}
 use lib.Dec.{ltb}
 use lib.ListN.{length, get_or}
+use Rattle.std.specs.Bool.{then_some}
 use Rattle.profile.specs.Lists.{chunks}
 use Rattle.profile.specs.Values.{Sized, empty_shutter, accepted, refused, accepts}
 use Rattle.profile.specs.Patterns.{pattern_of}
@@ -26,8 +27,8 @@ use Rattle.level.specs.Word.{word_of}
 use Rattle.level.specs.Fieldwords.{line_words, field_words}
 use Rattle.level.specs.Place.{no_level, level_answer, no_place, place_answer, locate_answer}
 use Rattle.level.specs.declared.Line.{Line}
-use Rattle.level.specs.declared.LevelAnswer.{LevelAnswer}
-use Rattle.level.specs.declared.Located.{Located}
+use Rattle.level.specs.Place.{LevelAnswer}
+use Rattle.level.specs.Place.{Located}
 
 -- the line of region r, whose number is i, with sequence s and that sequence's pattern a, a second pattern that is read by its number, and
 -- the given gate lines
@@ -40,10 +41,9 @@ line_with_by version pattern gates t f line i r s a =
       start = s.start;
       origin = origin_of r.mode (region_pixels t f i line);
       repetitions = repetitions s line;
-      mask1 = record { on = pair_on s.mask 1; freeze = a.freeze1; resume = a.resume1 };
-      mask2 = record { on = pair_on s.mask 2; freeze = a.freeze2; resume = a.resume2 };
-      second_acts = has_second f && among line gates;
-      second = pattern f.second;
+      mask1 = then_some (pair_on s.mask 1) (record { freeze = a.freeze1; resume = a.resume1 });
+      mask2 = then_some (pair_on s.mask 2) (record { freeze = a.freeze2; resume = a.resume2 });
+      second = then_some (has_second f && among line gates) (pattern f.second);
       gates = gates_here t.gates (among line gates);
       subck = subck_here t.subck (get_or gates 0 0) line;
       mshut = shutter_here (get_or t.shutters 0 empty_shutter) line (length_in t f i line);

@@ -18,7 +18,7 @@ use Rattle.profile.specs.declared.Ruleset.{Ruleset}
 use Rattle.profile.proofs.Laws.{cond-case, tested_yes}
 use Rattle.profile.proofs.Lines.{before_more, before-all, before-below, before_later, has_both}
 use Rattle.level.specs.declared.Line.{Line}
-use Rattle.level.specs.declared.Edge.{Edge}
+use Rattle.level.specs.Place.{Edge}
 use Rattle.level.specs.Line.{line_of}
 use Rattle.level.specs.Word.{word_of}
 use Rattle.level.specs.Next.{first_from, next}
@@ -130,15 +130,15 @@ module _ {version : ℕ} {t : Tables} {f : Field} {w e n p : ℕ} (x : Seeking v
 
 -- ---- the answer, case by case: a refused profile, a pixel that the field does not have, and one that it has
 
-module _ (rules : Ruleset) (p : Profile) (line pixel : ℕ) {r : Edge} {v : Verdict} where
-  pub edge_refused : r ≡ no_edge v → v ≡ check_profile rules p → accepts (check_profile rules p) ≡ false → r ≡ next_edge_answer rules p line pixel
+module _ (rules : Ruleset) (p : Profile) (line pixel : ℕ) {v : Verdict} where
+  pub edge_refused : v ≡ check_profile rules p → accepts (check_profile rules p) ≡ false → no_edge v ≡ next_edge_answer rules p line pixel
   unfolding next_edge_answer
-  edge_refused g f e = rw (g, f, e)
+  edge_refused f e = rw (f, e)
 
-  pub edge_nowhere : r ≡ no_edge v → v ≡ refused 19 0 → accepts (check_profile rules p) ≡ true → has_pixel p.tables p.field line pixel ≡ false
-      → r ≡ next_edge_answer rules p line pixel
+  pub edge_nowhere : v ≡ refused 19 0 → accepts (check_profile rules p) ≡ true → has_pixel p.tables p.field line pixel ≡ false
+      → no_edge v ≡ next_edge_answer rules p line pixel
   unfolding next_edge_answer
-  edge_nowhere g f e h = rw (g, f, e, h)
+  edge_nowhere f e h = rw (f, e, h)
 
 module _ (rules : Ruleset) (p : Profile) (line pixel : ℕ) (e : accepts (check_profile rules p) ≡ true) (h : has_pixel p.tables p.field line pixel ≡ true) where
   pub edge_there : {r : Edge} → r ≡ edge_at p.tables p.field (change_after rules.version p.tables p.field (place_of p.tables p.field line pixel))

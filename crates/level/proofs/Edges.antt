@@ -6,19 +6,22 @@ use mathlib.Core.List.{List}
 use Prim.Native.Nat.{ℕ, ◌+◌, ◌-◌, ◌*◌, ◌≤◌, ◌<◌}
 use native.Mathlib.Nat.{add_assoc}
 use native.Mathlib.Omega.{arith}
-use borrow.Author.Tests.{ltb-true, ltb-false, leb-true, leb-false, le-leb, eqb-true, eq-eqb}
+use borrow.Author.Tests.{ltb-true, ltb-false, leb-true, leb-false, le-leb, lt-leb, eqb-true, eq-eqb}
 use lib.Dec.{ltb, leb, eqb}
 use lib.ListN.{get_or}
+use Rattle.std.proofs.Common.{Option, None, Some}
 use Rattle.profile.proofs.Laws.{by_cases, or_left, and_intro}
 use Rattle.level.specs.Word.{frozen, shown_at}
 use Rattle.level.specs.declared.others.Edges.{Edges}
+use Rattle.level.specs.declared.second.Second.{Second}
 use Rattle.level.specs.declared.ready.Ready.{Ready}
 use Rattle.level.specs.Next.{next}
 use Rattle.level.specs.Keys.{among}
-use Rattle.level.specs.Ready.{first_edge, begun_at, second_edge, unmasked_at, unmasked_edge, edges_at, no_edges, eight_at, eight_edge, ready_word, still_edge, ready_edge}
+use Rattle.level.specs.Eight.{edges_at, no_edges, eight_at, eight_edge}
+use Rattle.level.specs.Ready.{first_edge, begun_at, starts_at, second_edge, over, unmasked_at, unmasked_edge, ready_word, still_edge, ready_edge}
 use Rattle.level.specs.Edges.{mask_edge}
-use Rattle.level.proofs.Nexts.{clash, or_none, or_parts, and_none, Is, next_is, is_next, is_two, next_two, next_ext, next_on, next_shift, stays, both}
-use Rattle.level.proofs.Stays.{mask_stays, eight_stays}
+use Rattle.level.proofs.Nexts.{clash, or_none, or_parts, and_none, Is, next_is, is_what, is_next, is_two, next_two, next_ext, next_on, next_shift, stays, both}
+use Rattle.level.proofs.Stays.{mask_stays, held_none, eight_stays}
 
 -- ---- eight bits
 
@@ -33,7 +36,7 @@ eight_small t p = omega (arith, at 0, at 1, at 2, at 3, at 4, at 5, at 6, at 7)
 
 module _ (t : List Edges) (s : ℕ) (e : s ≡ next (λ q. eight_edge t q) 0 65535) where
   y : Is (λ q. eight_edge t q) 0 65535 s
-  y = rw e (next_is (λ q. eight_edge t q) 0 65535 (omega arith))
+  y = is_what (omega arith) e
 
   pub eight_first : (p : ℕ) → p < s → eight_at t p ≡ eight_at t 0
   eight_first p h = stays (λ q. eight_edge t q) (eight_at t) (eight_stays t) 0 65535 (omega arith) p (omega arith) (rw (sym e) h)
@@ -56,72 +59,67 @@ module _ (t : List Edges) (s : ℕ) (e : s ≡ next (λ q. eight_edge t q) 0 655
 
 -- ---- the second pattern, once begun, and the first up to there
 
+begun_from : (o : Option Second) (p : ℕ) {s : Second} → begun_at o p ≡ Some s → (o ≡ Some s) × (s.length ≤ p)
+begun_from None p e = absurd (cc e)
+begun_from (Some t) p {s} e =
+    by_cases (leb t.length p)
+    (λ g. let same : Some t ≡ Some s = sym (ap (λ b. cond b (Some t) None) g) ∙ e in let alike : t ≡ s = cc same in (same, rw alike at (leb-true t.length p g)))
+    (λ g. absurd (let none : None ≡ Some s = sym (ap (λ b. cond b (Some t) None) g) ∙ e in cc none))
+
+pub begun_past : (o : Option Second) (p : ℕ) {s : Second} → begun_at o p ≡ Some s → s.length ≤ p
+begun_past o p e = (begun_from o p e).1
+
+begun_on : (o : Option Second) (p q : ℕ) {s : Second} → p ≤ q → begun_at o p ≡ Some s → begun_at o q ≡ Some s
+begun_on o p q {s} h e =
+    let from = begun_from o p e in
+    ap (λ t. begun_at t q) from.0 ∙ ap (λ b. cond b (Some s) None) (le-leb s.length q (omega (arith, from.1)))
+
+-- the edges of g up to where the second begins
+over_next : (o : Option Second) (g : ℕ → Bool) (p end : ℕ) {b e : ℕ} → begun_at o p ≡ None → Is (λ q. starts_at o q) p end b → Is g p b e
+    → Is (λ q. over (begun_at o q) (λ s. second_edge s q) (g q)) p end e
+unfolding second_edge
+over_next None g p end {b} {e} none u v =
+    let same : b ≡ end = by_cases (ltb b end) (λ l. absurd (clash (u.some (ltb-true b end l)) refl)) (λ l. omega (arith, u.less, ltb-false b end l)) in
+    rw same at v
+over_next (Some s) g p end {b} {e} none u v =
+    let late : p < s.length =
+    by_cases (leb s.length p)
+    (λ l. absurd (let some : Some s ≡ None = sym (ap (λ c. cond c (Some s) None) l) ∙ none in cc some))
+    (λ l. leb-false s.length p l) in
+    let first : (q : ℕ) → q < s.length → over (begun_at (Some s) q) (λ t. second_edge t q) (g q) ≡ g q =
+    λ q l. ap (λ c. over (cond c (Some s) None) (λ t. second_edge t q) (g q)) (lt-leb s.length q l) in
+    let before : b ≤ s.length =
+    by_cases (ltb s.length b) (λ l. absurd (clash (eq-eqb s.length s.length refl) (u.none s.length late (ltb-true s.length b l)))) (λ l. ltb-false s.length b l) in
+    record {
+      low = v.low;
+      less = omega (arith, u.less, v.less);
+      none = λ q a l. first q (omega (arith, v.less)) ∙ v.none q a l;
+      some = λ l.
+          by_cases (ltb e b)
+          (λ m. let in-time = ltb-true e b m in first e (omega arith) ∙ v.some in-time)
+          (λ m.
+          let here : e ≡ b = omega (arith, ltb-false e b m, v.less) in
+          let start : eqb e s.length ≡ true = ap (λ q. eqb q s.length) here ∙ u.some (omega arith) in
+          let at : e ≡ s.length = eqb-true e s.length start in
+          ap (λ c. over (cond c (Some s) None) (λ t. second_edge t e) (g e)) (le-leb s.length e (omega arith))
+          ∙ or_left (eqb e s.length) (among s.keys (e - s.length)) start);
+    }
+
 module _ (r : Ready) (p end : ℕ) (h : p < end) where
-  pub begun_next : begun_at r.second p ≡ true → next (λ q. second_edge r.second q) p end ≡ next (λ q. unmasked_edge r q) p end
+  pub begun_next : {s : Second} → begun_at r.second p ≡ Some s → next (λ q. second_edge s q) p end ≡ next (λ q. unmasked_edge r q) p end
   unfolding unmasked_edge
-  begun_next e =
+  begun_next {s} e =
       next_on h
-      (λ q a b.
-      (λ i. cond (sym (later q a) i) (second_edge r.second q) (first_edge r.first (r.first.origin + q))))
-    where
-      later : (q : ℕ) → p < q → begun_at r.second q ≡ true
-      later q a =
-          by_cases r.second.acts
-          (λ on.
-          let from : leb r.second.length p ≡ true = (λ i. sym on i && leb r.second.length p) ∙ e in
-          and_intro on (le-leb r.second.length q (omega (arith, leb-true r.second.length p from))))
-          (λ off. absurd (clash e (and_none (leb r.second.length p) off)))
+      (λ q a b. sym (ap (λ o. over o (λ t. second_edge t q) (first_edge r.first (r.first.origin + q))) (begun_on r.second p q (omega arith) e)))
 
   -- the first pattern's edges up to where the second begins
-  pub first_next : {b d : ℕ} → begun_at r.second p ≡ false → b ≡ next (λ q. r.second.acts && eqb q r.second.length) p end
+  pub first_next : {b d : ℕ} → begun_at r.second p ≡ None → b ≡ next (λ q. starts_at r.second q) p end
       → d ≡ next (λ j. first_edge r.first (r.first.origin + p + j)) 0 (b - p) → p + d ≡ next (λ q. unmasked_edge r q) p end
-  unfolding unmasked_edge second_edge
+  unfolding unmasked_edge
   first_next {b} {d} none eb ed =
-      let x : Is (λ q. r.second.acts && eqb q r.second.length) p end b =
-      rw eb (next_is (λ q. r.second.acts && eqb q r.second.length) p end h) in
-      let y : Is (λ q. first_edge r.first (r.first.origin + q)) p b (p + d) = shifted x.low in
-      let quiet : (q : ℕ) → p < q → q < b → begun_at r.second q ≡ false =
-      λ q a l.
-      by_cases r.second.acts
-      (λ on.
-      by_cases (leb r.second.length q)
-      (λ g.
-      let from : leb r.second.length p ≡ false = (λ i. sym on i && leb r.second.length p) ∙ none in
-      let after = leb-false r.second.length p from in
-      let upto = leb-true r.second.length q g in
-      absurd
-      (clash (and_intro on (eq-eqb r.second.length r.second.length refl)) (x.none r.second.length (omega arith) (omega arith))))
-      (λ g. both r.second.acts g))
-      (λ off. and_none (leb r.second.length q) off) in
-      is_next
-      (record {
-        low = y.low;
-        less = omega (arith, x.less, y.less);
-        none = λ q a l. first q (quiet q a (omega (arith, y.less))) ∙ y.none q a l;
-        some = λ l.
-            by_cases (ltb (p + d) b)
-            (λ g.
-            let in-time = ltb-true (p + d) b g in
-            first (p + d) (quiet (p + d) y.low in-time) ∙ y.some in-time)
-            (λ g.
-            let here : b ≡ p + d = omega (arith, ltb-false (p + d) b g, y.less) in
-            starts (p + d) (ap (λ q. r.second.acts && eqb q r.second.length) (sym here) ∙ x.some (omega arith)));
-      })
+      let x : Is (λ q. starts_at r.second q) p end b = is_what h eb in
+      is_next (over_next r.second (λ q. first_edge r.first (r.first.origin + q)) p end none x (shifted x.low))
     where
-      first : (q : ℕ) → begun_at r.second q ≡ false → unmasked_edge r q ≡ first_edge r.first (r.first.origin + q)
-      first q e = λ i. cond (e i) (second_edge r.second q) (first_edge r.first (r.first.origin + q))
-
-      starts : (q : ℕ) → r.second.acts && eqb q r.second.length ≡ true → unmasked_edge r q ≡ true
-      starts q e =
-          by_cases r.second.acts
-          (λ on.
-          let same : eqb q r.second.length ≡ true = (λ i. sym on i && eqb q r.second.length) ∙ e in
-          let at : q ≡ r.second.length = eqb-true q r.second.length same in
-          let begun : begun_at r.second q ≡ true = and_intro on (le-leb r.second.length q (omega arith)) in
-          (λ i. cond (begun i) (second_edge r.second q) (first_edge r.first (r.first.origin + q)))
-          ∙ or_left (eqb q r.second.length) (among r.second.keys (q - r.second.length)) same)
-          (λ off. absurd (clash e (and_none (eqb q r.second.length) off)))
-
       shifted : p < b → Is (λ q. first_edge r.first (r.first.origin + q)) p b (p + d)
       shifted l =
           let same : p + d ≡ next (λ q. first_edge r.first (r.first.origin + q)) p b =
@@ -139,15 +137,9 @@ module _ (r : Ready) (p : ℕ) where
   unfolding ready_word
   word_joined a b g = g ∙ (λ i. a i + b i * 64)
 
-  -- what shows while a mask holds, and while none does
-  pub shows_first : {v : ℕ} → frozen r.mask1 p ≡ true → v ≡ unmasked_at r r.mask1.freeze → v ≡ unmasked_at r shown
-  shows_first on e = e ∙ (λ i. unmasked_at r (cond (sym on i) r.mask1.freeze (cond (frozen r.mask2 p) r.mask2.freeze p)))
-
-  pub shows_second : {v : ℕ} → frozen r.mask1 p ≡ false → frozen r.mask2 p ≡ true → v ≡ unmasked_at r r.mask2.freeze → v ≡ unmasked_at r shown
-  shows_second off on e = e ∙ (λ i. unmasked_at r (cond (sym off i) r.mask1.freeze (cond (sym on i) r.mask2.freeze p)))
-
+  -- what shows while no mask holds
   pub shows_free : {v : ℕ} → frozen r.mask1 p ≡ false → frozen r.mask2 p ≡ false → v ≡ unmasked_at r p → v ≡ unmasked_at r shown
-  shows_free off free e = e ∙ (λ i. unmasked_at r (cond (sym off i) r.mask1.freeze (cond (sym free i) r.mask2.freeze p)))
+  shows_free off free e = e ∙ ap (unmasked_at r) (sym (held_none r.mask1 p _ off ∙ held_none r.mask2 p p free))
 
 module _ (r : Ready) (p end : ℕ) (h : p < end) where
   abbrev v_edge : ℕ → Bool
@@ -157,7 +149,7 @@ module _ (r : Ready) (p end : ℕ) (h : p < end) where
   x = next_is (λ q. still_edge r q) p end h
 
   -- gates, SUBCK, shutters and the two masks
-  pub still_next : next (λ q. mask_edge r.mask2 q) p (next (λ q. mask_edge r.mask1 q) p (next (λ q. eight_edge r.others.edges q) p end))
+  still_next : next (λ q. mask_edge r.mask2 q) p (next (λ q. mask_edge r.mask1 q) p (next (λ q. eight_edge r.others.edges q) p end))
       ≡ next (λ q. still_edge r q) p end
   still_next =
       ap (λ b. next (λ q. mask_edge r.mask2 q) p b) (next_two (λ q. eight_edge r.others.edges q) (λ q. mask_edge r.mask1 q) p end h)
@@ -194,13 +186,18 @@ module _ (r : Ready) (p end : ℕ) (h : p < end) where
         some = λ l. or_left (still_edge r (next (λ q. still_edge r q) p end)) (v_edge (next (λ q. still_edge r q) p end)) (x.some l);
       })
 
+  -- the same, from what the three calls give
+  pub still_is : {eight one two : ℕ} → eight ≡ next (λ q. eight_edge r.others.edges q) p end → one ≡ next (λ q. mask_edge r.mask1 q) p eight
+      → two ≡ next (λ q. mask_edge r.mask2 q) p one → two ≡ next (λ q. still_edge r q) p end
+  still_is e a b = b ∙ ap (λ n. next (λ q. mask_edge r.mask2 q) p n) (a ∙ ap (λ n. next (λ q. mask_edge r.mask1 q) p n) e) ∙ still_next
+
   pub held_first : frozen r.mask1 p ≡ true → next (λ q. still_edge r q) p end ≡ next (λ q. ready_edge r q) p end
   held_first e =
       quiet_next
       (λ q a b. and_none (not (frozen r.mask2 q) && unmasked_edge r q) (ap not (first_mask q (omega arith) b ∙ e)))
 
-  pub held-second : frozen r.mask2 p ≡ true → next (λ q. still_edge r q) p end ≡ next (λ q. ready_edge r q) p end
-  held-second e =
+  pub held_second : frozen r.mask2 p ≡ true → next (λ q. still_edge r q) p end ≡ next (λ q. ready_edge r q) p end
+  held_second e =
       quiet_next
       (λ q a b. both (not (frozen r.mask1 q)) (and_none (unmasked_edge r q) (ap not (second_mask q (omega arith) b ∙ e))))
 

@@ -3,28 +3,28 @@
 use mathlib.Core.Path.{◌≡◌, refl, sym, ap, ◌∙◌}
 use mathlib.Core.Bool.{Bool, true, false, cond, not, ◌&&◌, ◌||◌}
 use mathlib.Core.List.{List, map}
-use Prim.Native.Nat.{ℕ, ◌+◌, ◌-◌, ◌*◌, ◌/◌, ◌%◌, ◌≤◌, ◌<◌}
+use Prim.Native.Nat.{ℕ, min, ◌+◌, ◌-◌, ◌*◌, ◌/◌, ◌%◌, ◌≤◌, ◌<◌}
 use native.Mathlib.Nat.{le-div_iff_mul-le, mod-lt, mul-zero, div-one, div-add-mod', add-mul, mul_assoc, mul_comm}
 use native.Mathlib.Omega.{arith}
-use borrow.Author.Tests.{ltb-true, ltb-false, leb-true, leb-false, lt-ltb, le-ltb, le-leb, lt-leb, eqb-true, eqb-false}
+use borrow.Author.Tests.{ltb-true, ltb-false, leb-true, leb-false, lt-ltb, le-ltb, le-leb, eqb-true, eqb-false}
 use lib.Dec.{ltb, leb, eqb}
 use lib.ListN.{get_or}
+use Rattle.std.proofs.Common.{Option, None, Some}
 use Rattle.profile.proofs.Laws.{cond-case, by_cases}
 use Rattle.profile.specs.Patterns.{row_of, rows_of, not4095, used}
 use Rattle.profile.specs.declared.Mode.TheVariants.{Plain}
 use Rattle.profile.specs.declared.Pattern.{Pattern}
-use Rattle.level.specs.Word.{bit, flipped, within, flips, start_level, run_flips, run_toggles, first_level, second_level, unmasked, frozen, shown_at, six, v_word, word_of}
+use Rattle.level.specs.Word.{bit, flipped, within, flips, start_level, run_flips, run_toggles, first_level, second_level, of_second, unmasked, held_at, shown_at, six, v_word, word_of}
 use Rattle.level.specs.declared.Run.TheVariants.{Afresh, Carried, Multiplied}
-use Rattle.level.specs.Keys.{key_of, among, up_to, passed, six_at}
+use Rattle.level.specs.Keys.{key_of, among, passed, six_at}
 use Rattle.level.specs.declared.Line.{Line}
 use Rattle.level.specs.declared.Mask.{Mask}
 use Rattle.level.specs.declared.first.First.{First}
-use Rattle.level.specs.Ready.{begins_with, run_at, times_at, first_at}
-use Rattle.level.specs.Made.{first_word, second_word, others_word, keyed, Makes}
-use Rattle.level.specs.Edges.{first_edge_of, second_edge_of, unmasked_edge_of}
-use Rattle.level.proofs.Parts.{Small, run_has_length, up_to_most}
+use Rattle.level.specs.Ready.{begins_with, run_at, times_at, first_at, second_at, second_edge}
+use Rattle.level.specs.Made.{first_word, second_word, others_word, keyed, Makes, Seconds}
+use Rattle.level.specs.Edges.{first_edge_of, second_edge_of}
+use Rattle.level.proofs.Parts.{Small, run_has_length}
 use Rattle.level.proofs.RuleEdges.{bool_iff, run_rule, times_rule, used-among}
-use Rattle.level.proofs.Stays.{never_within}
 
 -- ---- one toggle: its key is below the count where it is used and passed
 
@@ -139,9 +139,9 @@ module _ (a : Pattern) (small : Small a.toggles) (start r : ℕ) where
   plain x = x
 
   -- the first pattern made ready, with the levels that even and odd repetitions begin with
-  abbrev made : Bool → ℕ → ℕ → List ℕ → ℕ → First
-  made times L T keys origin =
-      record { times = times; levels = L; turned = T; length = a.length; keys = keys; start = start; origin = origin; repetitions = r }
+  abbrev made : Bool → (L T : ℕ) → List ℕ → ℕ → L < 64 → T < 64 → First
+  made times L T keys origin ls ts =
+      record { times = times; levels = L; turned = T; length = a.length; keys = keys; start = start; origin = origin; repetitions = r; six_levels = ls; six_turned = ts }
 
   pub turned_bits : six_at a.levels (rows a plain) a.length ≡ six (λ k. flipped (start_level a k) (run_toggles a k))
   turned_bits =
@@ -174,41 +174,37 @@ module _ (a : Pattern) (small : Small a.toggles) (start r : ℕ) where
       (λ h. rw (e, h) (begins r)))
 
   -- version 1: each repetition starts afresh
-  pub afresh_makes : (origin L : ℕ) (keys : List ℕ) → keys ≡ keyed plain a.toggles → L ≡ six_at a.levels (rows_of keys) 0 → L < 64
+  pub afresh_makes : (origin L : ℕ) (keys : List ℕ) → keys ≡ keyed plain a.toggles → L ≡ six_at a.levels (rows_of keys) 0 → {ls ts : L < 64}
       → Makes
-      (made false L L keys origin)
+      (made false L L keys origin ls ts)
       origin (λ q. first_word Afresh a start r q) (λ q. first_edge_of Afresh a start r q)
   unfolding first_word
-  afresh_makes origin L keys ek el small64 =
+  afresh_makes origin L keys ek el {ls} {ts} =
       let levels = start_bits a plain ek el in
       record {
-        levels = small64;
-        turned = small64;
         place = refl;
-        edges = λ q. ap (λ b. leb start q && b) (run_rule a small (made false L L keys origin) (q - start) refl ek);
+        edges = λ q. ap (λ b. leb start q && b) (run_rule a small (made false L L keys origin ls ts) (q - start) refl ek);
         same = λ q.
             run_out
-            (made false L L keys origin)
+            (made false L L keys origin ls ts)
             refl refl ek refl refl (λ i k. start_level a k) (λ i k. start_small a plain k) levels
             (λ i. cond-case (λ x. x ≡ six (λ k. start_level a k)) (eqb (i % 2) 0) L L (λ e. levels) (λ e. levels)) q;
       }
 
   -- the mended rule: the levels carry over
-  pub carried_makes : (origin L T : ℕ) (keys : List ℕ) → keys ≡ keyed plain a.toggles → L ≡ six_at a.levels (rows_of keys) 0 → L < 64
-      → T ≡ six_at a.levels (rows_of keys) a.length → T < 64
+  pub carried_makes : (origin L T : ℕ) (keys : List ℕ) → keys ≡ keyed plain a.toggles → L ≡ six_at a.levels (rows_of keys) 0
+      → T ≡ six_at a.levels (rows_of keys) a.length → {ls : L < 64} {ts : T < 64}
       → Makes
-      (made false L T keys origin)
+      (made false L T keys origin ls ts)
       origin (λ q. first_word Carried a start r q) (λ q. first_edge_of Carried a start r q)
   unfolding first_word
-  carried_makes origin L T keys ek el ls et ts =
+  carried_makes origin L T keys ek el et {ls} {ts} =
       record {
-        levels = ls;
-        turned = ts;
         place = refl;
-        edges = λ q. ap (λ b. leb start q && b) (run_rule a small (made false L T keys origin) (q - start) refl ek);
+        edges = λ q. ap (λ b. leb start q && b) (run_rule a small (made false L T keys origin ls ts) (q - start) refl ek);
         same = λ q.
             run_out
-            (made false L T keys origin)
+            (made false L T keys origin ls ts)
             refl refl ek refl refl (λ i k. flipped (start_level a k) (i * run_toggles a k)) (λ i k. omega arith) levels begins q
             ∙ six_ext _ _
             (λ k j.
@@ -234,27 +230,24 @@ module _ (a : Pattern) (small : Small a.toggles) (start r : ℕ) where
 
   -- multiplier
   cap-toggle : (t x : ℕ) → 0 < a.length → x < 65536
-      → ltb (key_of x) (up_to 65535 (t / a.length) + 1) ≡ not (eqb x 4095) && leb (x * a.length) t
+      → ltb (key_of x) (min (t / a.length) 65535 + 1) ≡ not (eqb x 4095) && leb (x * a.length) t
   cap-toggle t x pos h =
-      key-toggle (up_to 65535 (t / a.length)) x (up_to_most 65535 (t / a.length))
+      key-toggle (min (t / a.length) 65535) x (omega arith)
       ∙ ap (λ b. not (eqb x 4095) && b)
-      (cond-case (λ n. leb x n ≡ leb x (t / a.length)) (ltb (t / a.length) 65535) _ _ (λ e. refl)
-      (λ e. let far = ltb-false (t / a.length) 65535 e in le-leb x 65535 (omega arith) ∙ sym (le-leb x (t / a.length) (omega arith)))
+      (leb_iff x (min (t / a.length) 65535) x (t / a.length) (λ g. omega arith) (λ g. omega arith)
       ∙ leb_iff x (t / a.length) (x * a.length) t (le-div_iff_mul-le pos).0 (le-div_iff_mul-le pos).1)
 
-  pub multiplied_makes : (origin L : ℕ) (keys : List ℕ) → keys ≡ keyed (λ x. key_of x) a.toggles → L ≡ six_at a.levels (rows_of keys) 0 → L < 64
+  pub multiplied_makes : (origin L : ℕ) (keys : List ℕ) → keys ≡ keyed (λ x. key_of x) a.toggles → L ≡ six_at a.levels (rows_of keys) 0 → {ls ts : L < 64}
       → Makes
-      (made true L L keys origin)
+      (made true L L keys origin ls ts)
       origin (λ q. first_word Multiplied a start r q) (λ q. first_edge_of Multiplied a start r q)
   unfolding first_word times_at
-  multiplied_makes origin L keys ek el small64 =
+  multiplied_makes origin L keys ek el {ls} {ts} =
       record {
-        levels = small64;
-        turned = small64;
         place = refl;
-        edges = λ q. ap (λ b. leb start q && b) (times_rule a small (made true L L keys origin) (q - start) refl ek);
+        edges = λ q. ap (λ b. leb start q && b) (times_rule a small (made true L L keys origin ls ts) (q - start) refl ek);
         same = λ q.
-            (λ i. cond (ltb q start) (levels i) (six_at (levels i) (rows_of (ek i)) (cond (eqb a.length 0) 65536 (up_to 65535 ((q - start) / a.length) + 1))))
+            (λ i. cond (ltb q start) (levels i) (six_at (levels i) (rows_of (ek i)) (cond (eqb a.length 0) 65536 (min ((q - start) / a.length) 65535 + 1))))
             ∙ by_cases (ltb q start)
             (λ e. rw e)
             (λ e.
@@ -269,7 +262,7 @@ module _ (a : Pattern) (small : Small a.toggles) (start r : ℕ) where
             (le-leb x 65535 (omega arith) ∙ sym (le-leb (x * a.length) (q - start) (rw (none, mul-zero) (omega arith)))))))
             (λ z.
             let pos : 0 < a.length = omega (arith, eqb-false a.length 0 z) in
-            rw (e, z) (out (up_to 65535 ((q - start) / a.length) + 1) (q - start) (λ x l. cap-toggle (q - start) x pos l))));
+            rw (e, z) (out (min ((q - start) / a.length) 65535 + 1) (q - start) (λ x l. cap-toggle (q - start) x pos l))));
       }
     where
       levels : L ≡ six (λ k. start_level a k)
@@ -304,55 +297,39 @@ module _ (a : Pattern) (small : Small a.toggles) (start r : ℕ) where
   second_edge_lem keys p ek h =
       ap (λ b. eqb p a.length || b) (ap (λ k. among k (p - a.length)) ek ∙ used-among a small (p - a.length) (omega arith))
 
+-- where it acts it is the rules' from its start on
+pub second_made : (a : Pattern) (small : Small a.toggles) {keys : List ℕ} → keys ≡ keyed (λ x. key_of x) a.toggles
+    → Seconds (Some (record { levels = a.levels; length = a.length; keys = keys })) (Some a)
+unfolding second_at second_edge
+second_made a small {keys} e =
+    record {
+      levels = λ p first h. by_cases (leb a.length p) (λ g. rw g (second_word_lem a small 0 0 keys p e h)) (λ g. rw g);
+      edges = λ p first h. by_cases (leb a.length p) (λ g. rw g (second_edge_lem a small 0 0 keys p e h)) (λ g. rw g);
+    }
+
 -- ---- the word
 
-pub shown_small : (a b : Mask) (p : ℕ) → a.freeze < 65536 → b.freeze < 65536 → p < 65536 → shown_at a b p < 65536
-shown_small a b p ha hb hp =
-    cond-case (λ n. n < 65536) (frozen a p) _ _ (λ e. ha) (λ e. cond-case (λ n. n < 65536) (frozen b p) _ _ (λ g. hb) (λ g. hp))
+pub held_small : (m : Option Mask) (p q : ℕ) → q < 65536 → ((x : Mask) → m ≡ Some x → x.freeze < 65536) → held_at m p q < 65536
+held_small None p q h f = h
+held_small (Some m) p q h f = cond-case (λ n. n < 65536) (within m.freeze m.resume p) _ _ (λ e. omega (arith, f m refl)) (λ e. h)
 
 six-cond : (b : Bool) (f g : ℕ → ℕ) → cond b (six f) (six g) ≡ six (λ k. cond b (f k) (g k))
 six-cond true f g = refl
 six-cond false f g = refl
 
-pub unmasked_word : (l : Line) (q : ℕ) {acts : Bool} {length second first : ℕ} → acts ≡ l.second_acts → length ≡ l.second.length
-    → second ≡ second_word l.second q → first ≡ first_word l.run l.pattern l.start l.repetitions (l.origin + q)
-    → cond (acts && leb length q) second first ≡ six (λ k. unmasked l k q)
-unfolding first_word second_word
-unmasked_word l q acts length second first =
-    (λ i. cond (acts i && leb (length i) q) (second i) (first i))
-    ∙ six-cond (l.second_acts && leb l.second.length q) (λ k. second_level l.second k q)
-    (λ k. first_level l.run l.pattern l.start l.repetitions k (l.origin + q))
+six_second : (o : Option Pattern) (q : ℕ) (first : ℕ → ℕ)
+    → of_second o q (λ a. second_word a q) (six first) ≡ six (λ k. of_second o q (λ a. second_level a k q) (first k))
+unfolding second_word
+six_second None q first = refl
+six_second (Some a) q first = six-cond (leb a.length q) (λ k. second_level a k q) first
+
+pub unmasked_word : (l : Line) (q : ℕ)
+    → of_second l.second q (λ a. second_word a q) (first_word l.run l.pattern l.start l.repetitions (l.origin + q)) ≡ six (λ k. unmasked l k q)
+unfolding first_word
+unmasked_word l q = six_second l.second q (λ k. first_level l.run l.pattern l.start l.repetitions k (l.origin + q))
 
 pub two_parts : (l : Line) (p : ℕ)
     → six (λ k. unmasked l k (shown_at l.mask1 l.mask2 p)) + others_word l.gates l.subck l.mshut l.strobe p * 64
     ≡ word_of l p
 unfolding word_of v_word others_word
 two_parts l p = omega arith
-
-pub unmasked_edge_lem : (l : Line) (q : ℕ) {acts : Bool} {length : ℕ} {second first : Bool} → acts ≡ l.second_acts → length ≡ l.second.length
-    → second ≡ second_edge_of l.second q → first ≡ first_edge_of l.run l.pattern l.start l.repetitions (l.origin + q)
-    → cond (acts && leb length q) second first ≡ unmasked_edge_of l q
-unmasked_edge_lem l q acts length second first = λ i. cond (acts i && leb (length i) q) (second i) (first i)
-
--- ---- gates, SUBCK and shutters: two edges at one place leave the level as it is
-
-pub edges_rest : (level : ℕ) (b : Bool) → flipped level (bit b + bit b) ≡ flipped level 0
-edges_rest level true = omega arith
-edges_rest level false = refl
-
--- a shutter flips at both ends of its span
-pub span_turns : (level from to p : ℕ) → from ≤ to
-    → flipped (level % 2 + 1) (bit (leb from p) + bit (leb to p)) ≡ flipped level (cond (within from to p) 0 1)
-span_turns level from to p h =
-    by_cases (leb from p)
-    (λ e.
-    by_cases (leb to p)
-    (λ g. rw (e, g, le-ltb p to (leb-true to p g)) (omega arith))
-    (λ g. rw (e, g, lt-ltb p to (leb-false to p g)) (omega arith)))
-    (λ e.
-    let before = leb-false from p e in
-    rw (e, lt-leb to p (omega arith)) (omega arith))
-
--- one that ends before it starts has no span
-pub span_none : (level from to p : ℕ) → to < from → flipped (level % 2 + 1) 0 ≡ flipped level (cond (within from to p) 0 1)
-span_none level from to p h = rw (never_within p h) (omega arith)

@@ -13,9 +13,9 @@ use Rattle.profile.specs.declared.Profile.{Profile}
 use Rattle.profile.specs.declared.Ruleset.{Ruleset}
 use Rattle.profile.proofs.Named.{names_none, names_accepted, tested_names, after_check}
 use Rattle.level.specs.Place.{level_answer, locate_answer, edge_at, next_edge_answer}
-use Rattle.level.specs.declared.LevelAnswer.{LevelAnswer}
-use Rattle.level.specs.declared.Located.{Located}
-use Rattle.level.specs.declared.Edge.{Edge}
+use Rattle.level.specs.Place.{LevelAnswer}
+use Rattle.level.specs.Place.{Located}
+use Rattle.level.specs.Place.{Edge}
 
 pub level_names : (rules : Ruleset) (p : Profile) (line pixel : ℕ) → Names (level_answer rules p line pixel).verdict
 unfolding level_answer

@@ -3,15 +3,14 @@
 -- Assumes nothing.
 use mathlib.Core.Path.{◌≡◌, refl, sym, ap, ◌∙◌}
 use mathlib.Core.Bool.{Bool, true, false, cond, ◌&&◌, ◌||◌}
-use Prim.Native.Nat.{ℕ, zero, suc, ◌+◌, ◌-◌, ◌≤◌, ◌<◌}
+use Prim.Native.Nat.{ℕ, min, zero, suc, ◌+◌, ◌-◌, ◌≤◌, ◌<◌}
 use native.Mathlib.Omega.{arith}
 use native.Mathlib.Numerals.{add-one}
-use borrow.Author.Tests.{ltb-true, ltb-false, le-ltb, leb-true, leb-false, eqb-true, eqb-false, eq-eqb, ne_eqb}
+use borrow.Author.Tests.{ltb-true, ltb-false, leb-true, leb-false, eqb-true, eqb-false, eq-eqb, ne_eqb}
 use lib.Dec.{ltb, leb, eqb}
 use Rattle.profile.proofs.Laws.{cond-case, by_cases, or_left, or_right}
 use Rattle.level.specs.Word.{bit}
 use Rattle.level.specs.Next.{first_from, next, any_of}
-use Rattle.level.specs.Keys.{up_to}
 
 -- ---- Booleans
 
@@ -120,6 +119,10 @@ module _ (f : ℕ → Bool) {q end : ℕ} where
   next-first h e =
       sym (first_skip (omega arith) (omega arith) (λ x a b. let here : x ≡ q = omega arith in ap f here ∙ e))
 
+-- the same of what a call gave
+pub is_what : {f : ℕ → Bool} {p end e : ℕ} → p < end → e ≡ next f p end → Is f p end e
+is_what {f} {p} {end} h e = rw e (next_is f p end h)
+
 pub next_low : (f : ℕ → Bool) (p end : ℕ) → p < end → p < next f p end
 next_low f p end h = (next_is f p end h).low
 
@@ -202,14 +205,14 @@ pub next_outside : (x p end : ℕ) → p < end → (p < x → end ≤ x) → end
 next_outside x p end h out = next-none h (λ q a b. ne_eqb q x (λ e. omega (arith, out (omega arith))))
 
 -- the lower of the best so far and a number, where the number is above n
-pub next_lower : (x n best end : ℕ) → n < best → best ≤ end → up_to best (cond (ltb n x) x end) ≡ next (λ q. eqb q x) n best
+pub next_lower : (x n best end : ℕ) → n < best → best ≤ end → min best (cond (ltb n x) x end) ≡ next (λ q. eqb q x) n best
 next_lower x n best end h l =
     by_cases (ltb n x)
     (λ e.
     by_cases (ltb x best)
-    (λ g. rw (e, g) (next_one x n best (ltb-true n x e) (ltb-true x best g)))
-    (λ g. rw (e, g) (next_outside x n best h (λ k. ltb-false x best g))))
-    (λ e. rw (e, le-ltb end best l) (next_outside x n best h (λ k. absurd (omega (arith, ltb-false n x e)))))
+    (λ g. let here : min best x ≡ x = omega (arith, ltb-true x best g) in rw e (here ∙ next_one x n best (ltb-true n x e) (ltb-true x best g)))
+    (λ g. let here : min best x ≡ best = omega (arith, ltb-false x best g) in rw e (here ∙ next_outside x n best h (λ k. ltb-false x best g))))
+    (λ e. let here : min best end ≡ best = omega arith in rw e (here ∙ next_outside x n best h (λ k. absurd (omega (arith, ltb-false n x e)))))
 
 -- ---- one of several
 

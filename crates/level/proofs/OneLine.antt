@@ -17,8 +17,8 @@ use Rattle.level.specs.Line.{line_of}
 use Rattle.level.specs.Fieldwords.{field_words}
 use Rattle.level.specs.Place.{level_answer, locate_answer}
 use Rattle.level.specs.declared.Line.{Line}
-use Rattle.level.specs.declared.LevelAnswer.{LevelAnswer}
-use Rattle.level.specs.declared.Located.{Located}
+use Rattle.level.specs.Place.{LevelAnswer}
+use Rattle.level.specs.Place.{Located}
 use Rattle.level.proofs.Before.{line_where, line_where_lem, words_by, level_by, locate_by}
 
 pub line_before : ℕ → Tables → Field → ℕ → Line

@@ -3,7 +3,7 @@
 use mathlib.Core.Path.{◌≡◌, refl, sym, ap, ◌∙◌}
 use mathlib.Core.Bool.{Bool, true, false, cond, ◌&&◌, ◌||◌}
 use mathlib.Core.List.{List}
-use Prim.Native.Nat.{ℕ, zero, suc, ◌+◌, ◌-◌, ◌*◌, ◌/◌, ◌%◌, ◌≤◌, ◌<◌}
+use Prim.Native.Nat.{ℕ, min, zero, suc, ◌+◌, ◌-◌, ◌*◌, ◌/◌, ◌%◌, ◌≤◌, ◌<◌}
 use native.Mathlib.Nat.{mul-zero, mod-lt, mod-zero, mod-eq_of_lt, mod-add-mod, mod_self, zero-mod, div-add-mod', div-lt_iff_lt-mul, div-mul-le_self, mul-le-mul, add-mul, one-mul, mul-mod_left, mul-div_cancel}
 use native.Mathlib.Omega.{arith}
 use borrow.Author.Tests.{ltb-true, ltb-false, lt-ltb, le-ltb, le-leb, lt-leb, eqb-true, eq-eqb, ne_eqb}
@@ -14,9 +14,9 @@ use Rattle.profile.proofs.Laws.{cond-case, by_cases, or_left, or_right, and_intr
 use Rattle.level.specs.declared.first.First.{First}
 use Rattle.level.specs.declared.second.Second.{Second}
 use Rattle.level.specs.Next.{next}
-use Rattle.level.specs.Keys.{among, up_to, six_at}
+use Rattle.level.specs.Keys.{among, six_at}
 use Rattle.level.specs.Ready.{begins_with, run_pixels, run_at, run_edge, times_at, times_edge, first_at, first_edge, second_edge}
-use Rattle.level.proofs.Nexts.{or_none, and_none, Is, next_is, is_next, is_none, next-none, next_ext, both}
+use Rattle.level.proofs.Nexts.{or_none, and_none, Is, is_what, is_next, next-none, next_ext, both}
 
 -- toggles of 16 bits
 abbrev pub Small : List ℕ → Type 0
@@ -29,15 +29,15 @@ run_has_length r (suc n) t h = omega arith
 
 -- a distance, cut at the room
 pub next_cut : {g : ℕ → Bool} (d room : ℕ) → 0 < d → 0 < room → ((j : ℕ) → 0 < j → j < d → g j ≡ false) → (d < room → g d ≡ true)
-    → up_to room d ≡ next g 0 room
+    → min d room ≡ next g 0 room
 next_cut {g} d room h l none some =
     is_next
-    (cond-case (λ e. Is g 0 room e) (ltb d room) d room
-    (λ e. let k = ltb-true d room e in record { low = h; less = omega arith; none = none; some = some })
-    (λ e. let k = ltb-false d room e in is_none l (λ q a b. none q a (omega arith))))
-
-pub up_to_most : (bound n : ℕ) → up_to bound n ≤ bound
-up_to_most bound n = cond-case (λ x. x ≤ bound) (ltb n bound) _ _ (λ e. omega (arith, ltb-true n bound e)) (λ e. omega arith)
+    (record {
+      low = omega arith;
+      less = omega arith;
+      none = λ q a b. none q a (omega arith);
+      some = λ b. let here : min d room ≡ d = omega arith in ap g here ∙ some (omega arith);
+    })
 
 -- ---- the place in a repetition
 
@@ -68,7 +68,7 @@ module _ (f : First) (t : ℕ) (h : t < run_pixels f) where
 
   -- the next toggle, or the repetition's end
   pub run_inside : (room x : ℕ) → 0 < room → x ≡ next (λ q. among f.keys q) (t % f.length) f.length
-      → up_to room (x - t % f.length) ≡ next (λ j. run_edge f (t + j)) 0 room
+      → min (x - t % f.length) room ≡ next (λ j. run_edge f (t + j)) 0 room
   unfolding run_edge
   run_inside room x l e =
       next_cut (x - t % f.length) room (omega (arith, y.low)) l
@@ -95,7 +95,7 @@ module _ (f : First) (t : ℕ) (h : t < run_pixels f) where
       (eq-eqb ((t + (x - t % f.length)) % f.length) 0 (mod-turn t f.length (x - t % f.length) end)))))
     where
       y : Is (λ q. among f.keys q) (t % f.length) f.length x
-      y = rw e (next_is (λ q. among f.keys q) (t % f.length) f.length run_mod)
+      y = is_what run_mod e
 
 pub run_after : (f : First) (t room : ℕ) → 0 < room → run_pixels f ≤ t → room ≡ next (λ j. run_edge f (t + j)) 0 room
 unfolding run_edge
@@ -148,7 +148,7 @@ module _ (f : First) (t room : ℕ) (h : 0 < room) where
       pub times-past : t < x * f.length
       times-past = (div-lt_iff_lt-mul pos).0 y.low
 
-      pub times-inside : x < 65536 → up_to room (x * f.length - t) ≡ next (λ j. times_edge f (t + j)) 0 room
+      pub times-inside : x < 65536 → min (x * f.length - t) room ≡ next (λ j. times_edge f (t + j)) 0 room
       unfolding times_edge
       times-inside l =
           next_cut (x * f.length - t) room (omega (arith, times-past)) h
@@ -183,13 +183,13 @@ module _ (f : First) (t : ℕ) {v : ℕ} where
   pub times_at_zero : f.length ≡ 0 → v ≡ six_at f.levels (rows_of f.keys) 65536 → v ≡ times_at f t
   unfolding times_at
   times_at_zero h g =
-      g ∙ ap (λ b. six_at f.levels (rows_of f.keys) (cond b 65536 (up_to 65535 (t / f.length) + 1))) (sym (eq-eqb f.length 0 h))
+      g ∙ ap (λ b. six_at f.levels (rows_of f.keys) (cond b 65536 (min (t / f.length) 65535 + 1))) (sym (eq-eqb f.length 0 h))
 
-  pub times_at_gone : {n : ℕ} → (f.length ≡ 0 → ⊥) → n ≡ up_to 65535 (t / f.length) → v ≡ six_at f.levels (rows_of f.keys) (n + 1) → v ≡ times_at f t
+  pub times_at_gone : {n : ℕ} → (f.length ≡ 0 → ⊥) → n ≡ min (t / f.length) 65535 → v ≡ six_at f.levels (rows_of f.keys) (n + 1) → v ≡ times_at f t
   unfolding times_at
   times_at_gone h e g =
       g ∙ ap (λ n. six_at f.levels (rows_of f.keys) (n + 1)) e
-      ∙ ap (λ b. six_at f.levels (rows_of f.keys) (cond b 65536 (up_to 65535 (t / f.length) + 1))) (sym (ne_eqb f.length 0 h))
+      ∙ ap (λ b. six_at f.levels (rows_of f.keys) (cond b 65536 (min (t / f.length) 65535 + 1))) (sym (ne_eqb f.length 0 h))
 
 -- ---- from the region's pixel
 
@@ -211,7 +211,7 @@ unfolding times_edge run_edge
 first_starts f =
     cond-case (λ b. b ≡ true) f.times _ _ (λ e. rw (eq-eqb 0 0 refl)) (λ e. start_edge (run_pixels f) f.length _)
 
-pub first-before : (f : First) (q room : ℕ) → 0 < room → q < f.start → up_to room (f.start - q) ≡ next (λ j. first_edge f (q + j)) 0 room
+pub first-before : (f : First) (q room : ℕ) → 0 < room → q < f.start → min (f.start - q) room ≡ next (λ j. first_edge f (q + j)) 0 room
 first-before f q room h l =
     next_cut (f.start - q) room (omega arith) h (λ j a b. and_none _ (lt-leb f.start (q + j) (omega arith)))
     (λ b.
@@ -255,4 +255,4 @@ second_later s p end x h l e =
     })
   where
     y : Is (λ q. among s.keys q) (p - s.length) (end - s.length) x
-    y = rw e (next_is (λ q. among s.keys q) (p - s.length) (end - s.length) (omega arith))
+    y = is_what (omega arith) e

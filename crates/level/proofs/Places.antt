@@ -1,9 +1,9 @@
 -- The answers of `level` and `locate`, case by case: a refused profile, a place that the field does not have, and one that it has.
 -- Assumes nothing.
-use mathlib.Core.Path.{◌≡◌, sym, ap, ◌∙◌}
+use mathlib.Core.Path.{◌≡◌, sym}
 use mathlib.Core.Bool.{true, false}
 use Prim.Native.Nat.{ℕ, ◌≤◌, ◌<◌}
-use borrow.Author.Tests.{lt-ltb, le-ltb, eq-eqb, ne_eqb}
+use borrow.Author.Tests.{lt-ltb, le-ltb}
 use Rattle.profile.proofs.Lines.{has_both}
 use Rattle.profile.specs.Values.{accepted, refused, accepts}
 use Rattle.profile.specs.Geometry.{line_length, pixel_count, has_pixel}
@@ -14,20 +14,12 @@ use Rattle.profile.specs.declared.Profile.{Profile}
 use Rattle.profile.specs.declared.Verdict.{Verdict}
 use Rattle.profile.specs.declared.Ruleset.{Ruleset}
 use Rattle.level.specs.declared.Line.{Line}
-use Rattle.level.specs.declared.LevelAnswer.{LevelAnswer}
-use Rattle.level.specs.declared.Located.{Located}
+use Rattle.level.specs.Place.{LevelAnswer}
+use Rattle.level.specs.Place.{Located}
 use Rattle.level.specs.Line.{line_of}
 use Rattle.level.specs.Word.{word_of}
 use Rattle.level.specs.Place.{no_level, level_answer, place_of, no_place, place_answer, locate_answer}
 use Rattle.level.proofs.Words.{place_below, line_at_place, pixel_at_place}
-
--- ---- a verdict that is the check's
-
-pub refuses : {v w : Verdict} → v ≡ w → (v.number ≡ 0 → ⊥) → accepts w ≡ false
-refuses {v} e n = ap accepts (sym e) ∙ ne_eqb v.number 0 n
-
-pub passes : {v w : Verdict} → v ≡ w → v.number ≡ 0 → accepts w ≡ true
-passes {v} e n = ap accepts (sym e) ∙ eq-eqb v.number 0 n
 
 -- ---- the level
 

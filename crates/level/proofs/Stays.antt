@@ -10,6 +10,7 @@ use native.Mathlib.Omega.{arith}
 use borrow.Author.Tests.{ltb-true, ltb-false, leb-true, leb-false, lt-ltb, le-ltb, le-leb, lt-leb, eqb-false, eq-eqb}
 use lib.Dec.{ltb, leb, eqb}
 use lib.ListN.{get_or}
+use Rattle.std.proofs.Common.{Option, None, Some}
 use Rattle.profile.proofs.Laws.{by_cases}
 use Rattle.profile.specs.Patterns.{row_of, not4095, used}
 use Rattle.profile.specs.declared.Mode.TheVariants.{Plain}
@@ -21,7 +22,7 @@ use Rattle.level.specs.declared.Pulse.{Pulse}
 use Rattle.level.specs.declared.Span.{Span}
 use Rattle.level.specs.declared.Line.{Line}
 use Rattle.level.specs.declared.others.Edges.{Edges}
-use Rattle.level.specs.Word.{bit, flipped, flips, within, start_level, run_flips, run_toggles, first_level, second_level, unmasked, frozen, v_level, pulse_level, no_pulse, span_level, v_word, gate_word, word_of}
+use Rattle.level.specs.Word.{bit, flipped, flips, within, start_level, run_flips, run_toggles, first_level, second_level, of_second, unmasked, frozen, held_at, v_level, toggles_passed, pulse_level, no_pulse, span_level, v_word, gate_word, word_of}
 use Rattle.level.specs.Next.{any_of}
 use Rattle.level.specs.Edges.{
   toggle_at,
@@ -31,12 +32,13 @@ use Rattle.level.specs.Edges.{
   second_edge_of,
   unmasked_edge_of,
   mask_edge,
+  toggles_edge,
   pulse_edge,
   span_edge,
   others_edge,
   edge_of,
 }
-use Rattle.level.specs.Ready.{edges_at, edges_edge, no_edges, eight_at, eight_edge}
+use Rattle.level.specs.Eight.{edges_at, edges_edge, no_edges, eight_at, eight_edge}
 use Rattle.level.proofs.Nexts.{clash, or_parts, and_none, any_none}
 use Rattle.level.proofs.Parts.{run_has_length, mod_on, mod-turn, next_multiple, start_edge}
 
@@ -216,21 +218,25 @@ second_stays a p k from e h =
     (ap (flips not4095 1 (row_of a.toggles k)) on
     ∙ flips_stays not4095 a 1 (p - a.length) (ap (toggle_at not4095 a 1) (sym on) ∙ parts.1) k h)
 
+of_second_stays : (o : Option Pattern) (p k : ℕ) (edge : Bool) (now before : ℕ) → of_second o (p + 1) (λ a. second_edge_of a (p + 1)) edge ≡ false → k < 6
+    → (edge ≡ false → now ≡ before)
+    → of_second o (p + 1) (λ a. second_level a k (p + 1)) now ≡ of_second o p (λ a. second_level a k p) before
+unfolding second_edge_of
+of_second_stays None p k edge now before e h stay = stay e
+of_second_stays (Some a) p k edge now before e h stay =
+    by_cases (leb a.length (p + 1))
+    (λ g.
+    let here : second_edge_of a (p + 1) ≡ false = rw g at e in
+    let ne = eqb-false (p + 1) a.length (or_parts (eqb (p + 1) a.length) (toggle_at not4095 a 1 (p + 1 - a.length)) here).0 in
+    let from : a.length ≤ p = omega (arith, leb-true a.length (p + 1) g) in
+    rw (g, le-leb a.length p from) (second_stays a p k from here h))
+    (λ g.
+    let later = leb-false a.length (p + 1) g in
+    rw (g, lt-leb a.length p (omega arith)) (stay (rw g at e)))
+
 unmasked_stays : (l : Line) (p k : ℕ) → unmasked_edge_of l (p + 1) ≡ false → k < 6 → unmasked l k (p + 1) ≡ unmasked l k p
 unfolding second_edge_of
-unmasked_stays l p k e h =
-    by_cases l.second_acts
-    (λ a.
-    by_cases (leb l.second.length (p + 1))
-    (λ g.
-    let edge : second_edge_of l.second (p + 1) ≡ false = rw (a, g) at e in
-    let ne = eqb-false (p + 1) l.second.length (or_parts (eqb (p + 1) l.second.length) (toggle_at not4095 l.second 1 (p + 1 - l.second.length)) edge).0 in
-    let from : l.second.length ≤ p = omega (arith, leb-true l.second.length (p + 1) g) in
-    rw (a, g, le-leb l.second.length p from) (second_stays l.second p k from edge h))
-    (λ g.
-    let later = leb-false l.second.length (p + 1) g in
-    rw (a, g, lt-leb l.second.length p (omega arith)) (first (rw (a, g) at e))))
-    (λ a. rw a (first (rw a at e)))
+unmasked_stays l p k e h = of_second_stays l.second p k _ _ _ e h first
   where
     first : first_edge_of l.run l.pattern l.start l.repetitions (l.origin + (p + 1)) ≡ false
         → first_level l.run l.pattern l.start l.repetitions k (l.origin + (p + 1))
@@ -242,15 +248,22 @@ unmasked_stays l p k e h =
 
 -- ---- masks
 
-pub mask_stays : (m : Mask) (p : ℕ) → mask_edge m (p + 1) ≡ false → frozen m (p + 1) ≡ frozen m p
-mask_stays m p e =
-    by_cases m.on
-    (λ a.
-    let parts = or_parts (eqb (p + 1) m.freeze) (eqb (p + 1) m.resume) (rw a at e) in
+pub mask_stays : (m : Option Mask) (p : ℕ) → mask_edge m (p + 1) ≡ false → frozen m (p + 1) ≡ frozen m p
+mask_stays None p e = refl
+mask_stays (Some m) p e =
+    let parts = or_parts (eqb (p + 1) m.freeze) (eqb (p + 1) m.resume) e in
     let from = leb_stays m.freeze p parts.0 in
     let to = below_stays m.resume p parts.1 in
-    λ i. m.on && (from i && to i))
-    (λ a. rw a)
+    λ i. from i && to i
+
+-- a mask that holds lets its freeze show, and one that does not hold what else shows
+held_same : (m : Option Mask) (p q x y : ℕ) → frozen m p ≡ true → frozen m q ≡ true → held_at m p x ≡ held_at m q y
+held_same None p q x y e g = absurd (clash e refl)
+held_same (Some m) p q x y e g = rw (e, g)
+
+pub held_none : (m : Option Mask) (p x : ℕ) → frozen m p ≡ false → held_at m p x ≡ x
+held_none None p x e = refl
+held_none (Some m) p x e = rw e
 
 v_stays : (l : Line) (p k : ℕ) → not (frozen l.mask1 (p + 1)) && (not (frozen l.mask2 (p + 1)) && unmasked_edge_of l (p + 1)) ≡ false
     → mask_edge l.mask1 (p + 1) ≡ false → mask_edge l.mask2 (p + 1) ≡ false → k < 6 → v_level l k (p + 1) ≡ v_level l k p
@@ -258,23 +271,29 @@ v_stays l p k e m1 m2 h =
     let a = mask_stays l.mask1 p m1 in
     let b = mask_stays l.mask2 p m2 in
     by_cases (frozen l.mask1 p)
-    (λ g. rw (a, g))
+    (λ g. ap (unmasked l k) (held_same l.mask1 (p + 1) p _ _ (a ∙ g) g))
     (λ g.
+    let first : (x : ℕ) → held_at l.mask1 p x ≡ x = λ x. held_none l.mask1 p x g in
+    let then : (x : ℕ) → held_at l.mask1 (p + 1) x ≡ x = λ x. held_none l.mask1 (p + 1) x (a ∙ g) in
     by_cases (frozen l.mask2 p)
-    (λ j. rw (a, g, b, j))
-    (λ j. rw (a, g, b, j) (unmasked_stays l p k (rw (a, g, b, j) at e) h)))
+    (λ j. ap (unmasked l k) (then _ ∙ held_same l.mask2 (p + 1) p _ _ (b ∙ j) j ∙ sym (first _)))
+    (λ j.
+    ap (unmasked l k) (then _ ∙ held_none l.mask2 (p + 1) (p + 1) (b ∙ j))
+    ∙ unmasked_stays l p k (rw (a, g, b, j) at e) h
+    ∙ ap (unmasked l k) (sym (first _ ∙ held_none l.mask2 p p j))))
 
 -- ---- gates, SUBCK and shutters
 
+toggles_stay : (o : Option (ℕ × ℕ)) (p : ℕ) → toggles_edge o (p + 1) ≡ false → toggles_passed o (p + 1) ≡ toggles_passed o p
+toggles_stay None p e = refl
+toggles_stay (Some t) p e =
+    let parts = or_parts (eqb (p + 1) t.0) (eqb (p + 1) t.1) e in
+    let x = leb_stays t.0 p parts.0 in
+    let y = leb_stays t.1 p parts.1 in
+    λ i. bit (x i) + bit (y i)
+
 pulse_stays : (g : Pulse) (p : ℕ) → pulse_edge g (p + 1) ≡ false → pulse_level g (p + 1) ≡ pulse_level g p
-pulse_stays g p e =
-    by_cases g.acts
-    (λ a.
-    let parts = or_parts (eqb (p + 1) g.toggle1) (eqb (p + 1) g.toggle2) (rw a at e) in
-    let x = leb_stays g.toggle1 p parts.0 in
-    let y = leb_stays g.toggle2 p parts.1 in
-    λ i. flipped g.level (cond g.acts (bit (x i) + bit (y i)) 0))
-    (λ a. rw a)
+pulse_stays g p e = ap (flipped g.level) (toggles_stay g.toggles p e)
 
 -- a span that ends before it starts has no pixel
 pub never_within : {from to : ℕ} (p : ℕ) → to < from → within from to p ≡ false

@@ -2,13 +2,14 @@
 -- a number mod 2, and a line starts where the lengths of the lines before it add up to.
 -- Assumes nothing.
 use mathlib.Core.Path.{◌≡◌, refl, sym, ap, ◌∙◌}
-use mathlib.Core.Bool.{Bool, true, false, ◌&&◌, ◌||◌}
+use mathlib.Core.Bool.{Bool, true, false, ◌||◌}
 use mathlib.Core.List.{List}
 use Prim.Native.Nat.{ℕ, ◌+◌, ◌*◌, ◌-◌, ◌%◌, ◌^◌, ◌≤◌, ◌<◌}
 use native.Mathlib.Omega.{arith}
 use borrow.Author.Tests.{ltb-true, ltb-false, lt-ltb}
 use lib.Dec.{ltb, leb}
 use lib.ListN.{length, get_or, get_or-eq_default}
+use Rattle.std.proofs.Common.{Option, None, Some}
 use Rattle.profile.proofs.Laws.{
   cond-case,
   by_cases,
@@ -68,6 +69,8 @@ use Rattle.level.specs.Word.{
   carried_level,
   times_level,
   first_level,
+  second_level,
+  of_second,
   unmasked,
   shown_at,
   v_level,
@@ -107,10 +110,12 @@ first_small Afresh a start r k q = run_small a start r k q
 first_small Carried a start r k q = carried_small a start r k q
 first_small Multiplied a start r k q = times_small a start k q
 
+of_second_small : (o : Option Pattern) (k p : ℕ) {first : ℕ} → first < 2 → of_second o p (λ a. second_level a k p) first < 2
+of_second_small None k p h = h
+of_second_small (Some a) k p h = cond-case (λ n. n < 2) (leb a.length p) _ _ (λ e. mod_small _) (λ e. h)
+
 pub unmasked_small : (l : Line) (k p : ℕ) → unmasked l k p < 2
-unmasked_small l k p =
-    cond-case (λ n. n < 2) (l.second_acts && leb l.second.length p) _ _ (λ e. mod_small _)
-    (λ e. first_small l.run l.pattern l.start l.repetitions k (l.origin + p))
+unmasked_small l k p = of_second_small l.second k p (first_small l.run l.pattern l.start l.repetitions k (l.origin + p))
 
 pub v_level_small : (l : Line) (k p : ℕ) → v_level l k p < 2
 v_level_small l k p = unmasked_small l k (shown_at l.mask1 l.mask2 p)

@@ -2,7 +2,7 @@
 -- first pixel needs no rule: it is where a line's first stretch begins. From each of these pixels to the next, or to the line's end, there is one word
 -- (proofs/Stopping.antt: stop-is).
 -- Assumes nothing.
-use Rattle.std.specs.Prelude.{ℕ, zero, suc, ◌+◌, ◌-◌, ◌*◌, ◌%◌, ◌≤◌, ◌<◌, ◌≡◌, ◌⊎◌, List, [], ◌∷◌, map, Bool, true, false, cond, not, ◌&&◌, ◌||◌, get_or, ltb, leb, eqb}
+use Rattle.std.specs.Prelude.{ℕ, zero, suc, ◌+◌, ◌-◌, ◌*◌, ◌%◌, ◌≤◌, ◌<◌, ◌≡◌, ◌⊎◌, List, [], ◌∷◌, map, Bool, true, false, Option, None, Some, cond, not, ◌&&◌, ◌||◌, get_or, ltb, leb, eqb}
 use Rattle.profile.specs.Patterns.{not4095, used}
 use Rattle.profile.specs.declared.Mode.TheVariants.{Plain}
 use Rattle.profile.specs.declared.Pattern.{Pattern}
@@ -12,7 +12,7 @@ use Rattle.level.specs.declared.Mask.{Mask}
 use Rattle.level.specs.declared.Pulse.{Pulse}
 use Rattle.level.specs.declared.Span.{Span}
 use Rattle.level.specs.declared.Line.{Line}
-use Rattle.level.specs.Word.{frozen, no_pulse, word_of}
+use Rattle.level.specs.Word.{of_second, frozen, no_pulse, word_of}
 use Rattle.level.specs.Next.{next, any_of}
 
 -- a used toggle of some output, times the scale, is at t
@@ -40,16 +40,20 @@ second_edge_of a p = eqb p a.length || toggle_at not4095 a 1 (p - a.length)
 -- V1 to V6 before masks
 abbrev pub unmasked_edge_of : Line → ℕ → Bool
 unmasked_edge_of l p =
-    cond (l.second_acts && leb l.second.length p) (second_edge_of l.second p)
-    (first_edge_of l.run l.pattern l.start l.repetitions (l.origin + p))
+    of_second l.second p (λ a. second_edge_of a p) (first_edge_of l.run l.pattern l.start l.repetitions (l.origin + p))
 
 -- a freeze or a resume that the mask turns on
-abbrev pub mask_edge : Mask → ℕ → Bool
-mask_edge m p = m.on && (eqb p m.freeze || eqb p m.resume)
+abbrev pub mask_edge : Option Mask → ℕ → Bool
+mask_edge None p = false
+mask_edge (Some m) p = eqb p m.freeze || eqb p m.resume
 
 -- a gate or SUBCK that acts flips at its toggles, a shutter where its span begins and ends
+abbrev pub toggles_edge : Option (ℕ × ℕ) → ℕ → Bool
+toggles_edge None p = false
+toggles_edge (Some t) p = eqb p t.0 || eqb p t.1
+
 abbrev pub pulse_edge : Pulse → ℕ → Bool
-pulse_edge g p = g.acts && (eqb p g.toggle1 || eqb p g.toggle2)
+pulse_edge g p = toggles_edge g.toggles p
 
 abbrev pub span_edge : Span → ℕ → Bool
 span_edge s p = leb s.from s.to && (eqb p s.from || eqb p s.to)

@@ -13,10 +13,6 @@ among keys x = any_of 18 (λ k. eqb x (get_or keys k 0))
 abbrev pub key_of : ℕ → ℕ
 key_of x = cond (eqb x 4095) 65536 x
 
--- a number no higher than a bound
-abbrev pub up_to : ℕ → ℕ → ℕ
-up_to bound n = cond (ltb n bound) n bound
-
 -- how many of an output's three toggles are passed
 abbrev pub passed : ℕ → List ℕ → ℕ
 passed n keys = bit (ltb (get_or keys 0 0) n) + bit (ltb (get_or keys 1 0) n) + bit (ltb (get_or keys 2 0) n)

@@ -6,5 +6,6 @@ pub mod Place
 pub mod Next
 pub mod Edges
 pub mod Keys
+pub mod Eight
 pub mod Ready
 pub mod Made

@@ -1,7 +1,8 @@
 -- Where everything acts on one line of a field, worked out from the rule version, the tables, the field and the line's number. Here alone a version
 -- or a mode decides: the word of a line (specs/Word.antt) looks at neither.
 -- Assumes nothing.
-use Rattle.std.specs.Prelude.{ℕ, ◌+◌, List, [], ◌∷◌, Bool, false, cond, ◌&&◌, ◌||◌, get_or, replicate, ltb, leb, eqb}
+use Rattle.std.specs.Prelude.{ℕ, ◌+◌, List, [], ◌∷◌, Bool, false, None, cond, ◌&&◌, ◌||◌, get_or, replicate, ltb, leb, eqb}
+use Rattle.std.specs.Bool.{then_some}
 use Rattle.profile.specs.Values.{empty_gate, empty_shutter}
 use Rattle.profile.specs.Patterns.{empty_pattern, pattern_of}
 use Rattle.profile.specs.Geometry.{region_at, region_of, sequence_of, length_in, region_pixels, repetitions, gate_lines}
@@ -33,7 +34,7 @@ on_gate_line f line = among line (gate_lines f)
 
 -- a gate or SUBCK that is absent: "Absent: 1."
 abbrev pub absent_pulse : Pulse
-absent_pulse = record { acts = false; level = 1; toggle1 = 0; toggle2 = 0 }
+absent_pulse = record { level = 1; toggles = None }
 
 -- a shutter that is absent: "Absent: 0.", the opposite of a level that it has at no pixel
 abbrev pub absent_span : Span
@@ -43,7 +44,7 @@ absent_span = record { level = 1; from = 0; to = 0 }
 abbrev pub gate_here : Gate → Bool → Pulse
 gate_here g here =
     cond g.present
-    (record { acts = gate_on g && here; level = g.level; toggle1 = g.toggle1; toggle2 = g.toggle2 })
+    (record { level = g.level; toggles = then_some (gate_on g && here) (g.toggle1, g.toggle2) })
     absent_pulse
 
 -- VSG1 to VSG5
@@ -62,10 +63,8 @@ abbrev pub subck_here : Subck → ℕ → ℕ → Pulse
 subck_here s gate line =
     cond s.present
     (record {
-      acts = leb (gate + s.suppressed) line && ltb line (gate + s.suppressed + s.count);
       level = s.level;
-      toggle1 = s.toggle1;
-      toggle2 = s.toggle2;
+      toggles = then_some (leb (gate + s.suppressed) line && ltb line (gate + s.suppressed + s.count)) (s.toggle1, s.toggle2);
     })
     absent_pulse
 
@@ -111,10 +110,9 @@ line_with version t f line i r s a =
       start = s.start;
       origin = origin_of r.mode (region_pixels t f i line);
       repetitions = repetitions s line;
-      mask1 = record { on = pair_on s.mask 1; freeze = a.freeze1; resume = a.resume1 };
-      mask2 = record { on = pair_on s.mask 2; freeze = a.freeze2; resume = a.resume2 };
-      second_acts = has_second f && on_gate_line f line;
-      second = second_of t f;
+      mask1 = then_some (pair_on s.mask 1) (record { freeze = a.freeze1; resume = a.resume1 });
+      mask2 = then_some (pair_on s.mask 2) (record { freeze = a.freeze2; resume = a.resume2 });
+      second = then_some (has_second f && on_gate_line f line) (second_of t f);
       gates = gates_here t.gates (on_gate_line f line);
       subck = subck_here t.subck (get_or (gate_lines f) 0 0) line;
       mshut = shutter_here (get_or t.shutters 0 empty_shutter) line (length_in t f i line);
@@ -137,10 +135,9 @@ no_line =
       start = 0;
       origin = 0;
       repetitions = 0;
-      mask1 = record { on = false; freeze = 0; resume = 0 };
-      mask2 = record { on = false; freeze = 0; resume = 0 };
-      second_acts = false;
-      second = empty_pattern;
+      mask1 = None;
+      mask2 = None;
+      second = None;
       gates = replicate 5 absent_pulse;
       subck = absent_pulse;
       mshut = absent_span;

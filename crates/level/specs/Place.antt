@@ -1,8 +1,9 @@
 -- The level asked for at a line and pixel, the line and pixel of a field pixel counted from 0, and the next edge: the nearest later pixel of another word.
 -- Assumes nothing.
-use Rattle.std.specs.Prelude.{ℕ, ◌+◌, ◌-◌, ◌*◌, ◌<◌, ◌≡◌, false, true, cond, not, ltb, eqb}
+use Rattle.std.specs.Prelude.{ℕ, ◌+◌, ◌-◌, ◌*◌, ◌<◌, ◌≡◌, Bool, false, true, cond, not, ltb, eqb, Option, Some, None, Result, Ok, Err}
 use Rattle.profile.specs.Lists.{last_start}
 use Rattle.profile.specs.Values.{accepted, refused, accepts}
+use Rattle.profile.specs.Refusals.{verdict_of}
 use Rattle.profile.specs.Geometry.{pixels_before, pixel_count, has_pixel}
 use Rattle.profile.specs.Rules.{check_profile}
 use Rattle.profile.specs.declared.Tables.{Tables}
@@ -10,16 +11,35 @@ use Rattle.profile.specs.declared.Field.{Field}
 use Rattle.profile.specs.declared.Profile.{Profile}
 use Rattle.profile.specs.declared.Verdict.{Verdict}
 use Rattle.profile.specs.declared.Ruleset.{Ruleset}
-use Rattle.level.specs.declared.LevelAnswer.{LevelAnswer}
-use Rattle.level.specs.declared.Located.{Located}
-use Rattle.level.specs.declared.Edge.{Edge}
+use Rattle.profile.specs.declared.refusal.Refusal.{Refusal}
+use Rattle.level.specs.declared.LinePixel.{LinePixel}
 use Rattle.level.specs.Line.{line_of}
 use Rattle.level.specs.Word.{word_of}
 use Rattle.level.specs.Next.{next}
 
+-- an answer: what the rule book says of it, in numbers
+pub record LevelAnswer : Type 0 where
+  pub verdict : Verdict
+  pub word : ℕ
+
+pub record Located : Type 0 where
+  pub verdict : Verdict
+  pub line : ℕ
+  pub pixel : ℕ
+
+pub record Edge : Type 0 where
+  pub verdict : Verdict
+  pub found : Bool
+  pub line : ℕ
+  pub pixel : ℕ
+
 -- "a refused level .. gives word 0"
 abbrev pub no_level : Verdict → LevelAnswer
 no_level v = record { verdict = v; word = 0 }
+
+abbrev pub level_told : Result ℕ Refusal → LevelAnswer
+level_told (Ok word) = record { verdict = accepted; word = word }
+level_told (Err refusal) = no_level (verdict_of refusal)
 
 -- the word at a line and pixel; 19 where the field has no such pixel
 abbrev pub word_answer : ℕ → Tables → Field → ℕ → ℕ → LevelAnswer
@@ -50,6 +70,10 @@ last_multiple length lines n = last_start (λ (k : ℕ). k * length) lines n
 abbrev pub no_place : Verdict → Located
 no_place v = record { verdict = v; line = 0; pixel = 0 }
 
+abbrev pub locate_told : Result LinePixel Refusal → Located
+locate_told (Ok there) = record { verdict = accepted; line = there.line; pixel = there.pixel }
+locate_told (Err refusal) = no_place (verdict_of refusal)
+
 abbrev pub place_answer : Tables → Field → ℕ → Located
 place_answer t f n =
     cond (ltb n (pixel_count t f)) (record { verdict = accepted; line = line_at t f n; pixel = pixel_at t f n }) (no_place (refused 19 0))
@@ -69,6 +93,11 @@ change_after version t f n = next (λ m. not (eqb (word_at version t f m) (word_
 -- "as line and pixel, or none": zeros where there is none, and where it is refused
 abbrev pub no_edge : Verdict → Edge
 no_edge v = record { verdict = v; found = false; line = 0; pixel = 0 }
+
+abbrev pub edge_told : Result (Option LinePixel) Refusal → Edge
+edge_told (Ok (Some there)) = record { verdict = accepted; found = true; line = there.line; pixel = there.pixel }
+edge_told (Ok None) = no_edge accepted
+edge_told (Err refusal) = no_edge (verdict_of refusal)
 
 abbrev pub edge_at : Tables → Field → ℕ → Edge
 edge_at t f n =

@@ -2,6 +2,7 @@
 -- proofs/Words.antt, strip-line, shows that it is Line's.
 -- Assumes nothing.
 use Rattle.std.specs.Prelude.{ℕ, ◌+◌, cond, ◌&&◌, get_or, eqb}
+use Rattle.std.specs.Bool.{then_some}
 use Rattle.profile.specs.Values.{empty_shutter}
 use Rattle.profile.specs.Patterns.{pattern_of}
 use Rattle.profile.specs.Geometry.{region_at, sequence_of, product_pixels, repetitions}
@@ -50,10 +51,9 @@ line_on s line =
       start = s.sequence.start;
       origin = origin_of s.mode (pixels_on s line);
       repetitions = repetitions s.sequence line;
-      mask1 = record { on = pair_on s.sequence.mask 1; freeze = s.pattern.freeze1; resume = s.pattern.resume1 };
-      mask2 = record { on = pair_on s.sequence.mask 2; freeze = s.pattern.freeze2; resume = s.pattern.resume2 };
-      second_acts = has_second s.field && on_gate_line s.field line;
-      second = s.second;
+      mask1 = then_some (pair_on s.sequence.mask 1) (record { freeze = s.pattern.freeze1; resume = s.pattern.resume1 });
+      mask2 = then_some (pair_on s.sequence.mask 2) (record { freeze = s.pattern.freeze2; resume = s.pattern.resume2 });
+      second = then_some (has_second s.field && on_gate_line s.field line) s.second;
       gates = gates_here s.gates (on_gate_line s.field line);
       subck = subck_here s.subck s.field.gate line;
       mshut = shutter_here (get_or s.shutters 0 empty_shutter) line (length_on s line);

@@ -1,6 +1,6 @@
 -- The word of 14 output levels at a pixel of a line, output by output. A line says how V1 to V6 run on it; no version and no mode is looked at.
 -- Assumes nothing.
-use Rattle.std.specs.Prelude.{ℕ, ◌+◌, ◌-◌, ◌*◌, ◌/◌, ◌%◌, ◌^◌, List, Bool, true, false, cond, ◌&&◌, get_or, ltb, leb}
+use Rattle.std.specs.Prelude.{ℕ, ◌+◌, ◌-◌, ◌*◌, ◌/◌, ◌%◌, ◌^◌, List, Bool, true, false, Option, None, Some, cond, ◌&&◌, get_or, ltb, leb}
 use Rattle.profile.specs.Patterns.{row_of, not4095, used}
 use Rattle.profile.specs.declared.Mode.TheVariants.{Plain}
 use Rattle.profile.specs.declared.Pattern.{Pattern}
@@ -80,29 +80,43 @@ first_level Multiplied a start r k q = times_level a start k q
 abbrev pub second_level : Pattern → ℕ → ℕ → ℕ
 second_level a k p = flipped (start_level a k) (flips not4095 1 (row_of a.toggles k) (p - a.length))
 
+-- what the second pattern gives from there on, where it acts; else what the first gives
+abbrev pub of_second : {A : Type 0} → Option Pattern → ℕ → (Pattern → A) → A → A
+of_second None p second first = first
+of_second (Some a) p second first = cond (leb a.length p) (second a) first
+
 abbrev pub unmasked : Line → ℕ → ℕ → ℕ
 unmasked l k p =
-    cond (l.second_acts && leb l.second.length p)
-    (second_level l.second k p)
-    (first_level l.run l.pattern l.start l.repetitions k (l.origin + p))
+    of_second l.second p (λ a. second_level a k p) (first_level l.run l.pattern l.start l.repetitions k (l.origin + p))
 
 -- "Mask, last: in freeze ≤ pixel < resume, the level that the unmasked rules give at pixel freeze."
-abbrev pub frozen : Mask → ℕ → Bool
-frozen m p = m.on && within m.freeze m.resume p
+abbrev pub frozen : Option Mask → ℕ → Bool
+frozen None p = false
+frozen (Some m) p = within m.freeze m.resume p
+
+-- its freeze while a mask holds, else another pixel
+abbrev pub held_at : Option Mask → ℕ → ℕ → ℕ
+held_at None p other = other
+held_at (Some m) p other = cond (within m.freeze m.resume p) m.freeze other
 
 -- the pixel whose unmasked levels show
-abbrev pub shown_at : Mask → Mask → ℕ → ℕ
-shown_at a b p = cond (frozen a p) a.freeze (cond (frozen b p) b.freeze p)
+abbrev pub shown_at : Option Mask → Option Mask → ℕ → ℕ
+shown_at a b p = held_at a p (held_at b p p)
 
 abbrev pub v_level : Line → ℕ → ℕ → ℕ
 v_level l k p = unmasked l k (shown_at l.mask1 l.mask2 p)
 
+-- a gate's or SUBCK's toggles at or below the pixel, where they act
+abbrev pub toggles_passed : Option (ℕ × ℕ) → ℕ → ℕ
+toggles_passed None p = 0
+toggles_passed (Some t) p = bit (leb t.0 p) + bit (leb t.1 p)
+
 -- gates and SUBCK: "the start level flipped for each toggle at or below the pixel; else the start level"
 abbrev pub pulse_level : Pulse → ℕ → ℕ
-pulse_level g p = flipped g.level (cond g.acts (bit (leb g.toggle1 p) + bit (leb g.toggle2 p)) 0)
+pulse_level g p = flipped g.level (toggles_passed g.toggles p)
 
 abbrev pub no_pulse : Pulse
-no_pulse = record { acts = false; level = 0; toggle1 = 0; toggle2 = 0 }
+no_pulse = record { level = 0; toggles = None }
 
 abbrev pub gate_level : List Pulse → ℕ → ℕ → ℕ
 gate_level gates k p = pulse_level (get_or gates k no_pulse) p

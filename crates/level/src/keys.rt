@@ -1,8 +1,8 @@
 // The toggles of a pattern as keys: a toggle is passed where its key is below a count of pixels.
-ghost use Rattle.std.specs.Prelude.{◌+◌, ◌*◌, ◌/◌, ◌<◌, ◌≡◌, cond, ltb};
-ghost use Rattle.profile.specs.Patterns.{rows_of};
+ghost use Rattle.std.specs.Prelude.{min, ◌+◌, ◌*◌, ◌/◌, ◌<◌, ◌≡◌, cond, ltb};
+ghost use Rattle.profile.specs.Patterns.{row_of, rows_of};
 ghost use Rattle.level.specs.Word.{bit, flipped};
-ghost use Rattle.level.specs.Keys.{among, passed, six_at, up_to};
+ghost use Rattle.level.specs.Keys.{among, passed, six_at};
 ghost use Rattle.level.specs.Next.{next};
 
 // 1 where a key is below the count.
@@ -10,7 +10,7 @@ fn hit(key: u32, n: u32) -> u16
     ensures value { result ≡ bit (ltb key n) }
     ensures upper_bound { result < 2 }
 {
-    if key < n { 1 } else { 0 }
+    u16::from(key < n)
 }
 
 // How many of an output's three toggles are passed.
@@ -29,49 +29,25 @@ fn output(level: u16, keys: [u32; 3], n: u32) -> u16
     (level % 2 + flips(keys, n)) % 2
 }
 
-// Six levels as bits.
-fn bits6(a: u16, b: u16, c: u16, d: u16, e: u16, f: u16) -> u16
-    requires { (a < 2) × (b < 2) × (c < 2) × (d < 2) × (e < 2) × (f < 2) }
-    ensures value { result ≡ a + b * 2 + c * 4 + d * 8 + e * 16 + f * 32 }
-    ensures upper_bound { result < 64 }
+// The three keys of output k.
+fn row(keys: &[u32; 18], k: usize) -> [u32; 3]
+    requires { k < 6 }
+    ensures { result ≡ row_of keys.now k }
 {
-    a + b * 2 + c * 4 + d * 8 + e * 16 + f * 32
+    [keys[3 * k], keys[3 * k + 1], keys[3 * k + 2]]
 }
 
-// The keys as six outputs of three.
-fn rows(t: [u32; 18]) -> [[u32; 3]; 6]
-    ensures { result ≡ rows_of t }
-{
-    [
-        [t[0], t[1], t[2]],
-        [t[3], t[4], t[5]],
-        [t[6], t[7], t[8]],
-        [t[9], t[10], t[11]],
-        [t[12], t[13], t[14]],
-        [t[15], t[16], t[17]],
-    ]
-}
-
-fn levels_at(levels: u16, keys: [[u32; 3]; 6], n: u32) -> u16
-    ensures value { result ≡ six_at levels keys n }
+// The levels of V1 to V6, written out as `six_at` is.
+pub(crate) fn six(levels: u16, keys: &[u32; 18], n: u32) -> u16
+    ensures value { result ≡ six_at levels (rows_of keys.now) n }
     ensures upper_bound { result < 64 }
 {
-    bits6(
-        output(levels, keys[0], n),
-        output(levels / 2, keys[1], n),
-        output(levels / 4, keys[2], n),
-        output(levels / 8, keys[3], n),
-        output(levels / 16, keys[4], n),
-        output(levels / 32, keys[5], n),
-    )
-}
-
-// The levels of V1 to V6.
-pub(crate) fn six(levels: u16, keys: [u32; 18], n: u32) -> u16
-    ensures value { result ≡ six_at levels (rows_of keys) n }
-    ensures upper_bound { result < 64 }
-{
-    levels_at(levels, rows(keys), n)
+    output(levels, row(keys, 0), n)
+        + output(levels / 2, row(keys, 1), n) * 2
+        + output(levels / 4, row(keys, 2), n) * 4
+        + output(levels / 8, row(keys, 3), n) * 8
+        + output(levels / 16, row(keys, 4), n) * 16
+        + output(levels / 32, row(keys, 5), n) * 32
 }
 
 // The key where it is above n, else the end.
@@ -81,32 +57,21 @@ fn above(key: u32, n: u32, end: u32) -> u32
     if n < key { key } else { end }
 }
 
-fn lower(a: u32, b: u32) -> u32
-    ensures { result ≡ up_to b a }
-{
-    if a < b { a } else { b }
-}
-
 // The lowest key above n, or the end where it is lower.
-pub(crate) fn next_key(keys: [u32; 18], n: u32, end: u32) -> u32
+pub(crate) fn next_key(keys: &[u32; 18], n: u32, end: u32) -> u32
     requires { n < end }
-    ensures { result ≡ next (λ q. among keys q) n end }
+    ensures { result ≡ next (λ q. among keys.now q) n end }
 {
     let mut best = end;
-    let mut k: usize = 0;
-    while k < 18 {
-        best = lower(above(keys[k], n, end), best);
-        k += 1;
+    for key in keys {
+        best = best.min(above(*key, n, end));
     }
     best
 }
 
 // A count held to 16 bits: every used toggle is at or below that.
 pub(crate) fn cap(m: u64) -> u32
-    ensures { result ≡ up_to 65535 m }
+    ensures { result ≡ min m 65535 }
 {
-    if m < 65535 {
-        return m as u32;
-    }
-    65535
+    m.min(65535) as u32
 }

@@ -1,4 +1,6 @@
 // The word of 14 output levels at every line and pixel of a field. A line holds where everything acts on it; the word says the levels.
+// Where a law speaks of a number itself it is widened by a cast: a proof reads a cast as the number, and a `from` as a further one.
+// Bounds of levels and words stand beside their values, for what joins two halves asks for both.
 #![tactic(auto)]
 
 mod first;
@@ -18,7 +20,7 @@ pub use lines::{line_of, line_on, strip_of};
 pub use nearest::{next_edge, next_edge_in};
 pub use pixels::fill;
 pub use place::{level, level_in, locate, locate_in};
-use profile::{Field, Gate, Mode, Pattern, Sequence, Shutter, Subck, Verdict};
+use profile::{Field, Gate, Mode, Pattern, Sequence, Shutter, Subck};
 pub use stops::stretches;
 
 // How V1 to V6 run on a line: each repetition starts afresh, or takes over the levels that the last one ended with, or the toggles are multiplied.
@@ -29,21 +31,18 @@ pub enum Run {
     Multiplied,
 }
 
-// A freeze and resume pair, and whether the mask turns it on.
+// A freeze and resume pair that the mask turns on.
 #[derive(Clone, Copy)]
 pub struct Mask {
-    pub on: bool,
     pub freeze: u16,
     pub resume: u16,
 }
 
-// A gate or SUBCK on one line: its start level, and whether its two toggles act here.
+// A gate or SUBCK on one line: its start level, and its two toggles, where they act here.
 #[derive(Clone, Copy)]
 pub struct Pulse {
-    pub acts: bool,
     pub level: u16,
-    pub toggle1: u16,
-    pub toggle2: u16,
+    pub toggles: Option<(u16, u16)>,
 }
 
 // A shutter on one line: active from one pixel up to, and not including, another.
@@ -54,7 +53,7 @@ pub struct Span {
     pub to: u16,
 }
 
-// All that one line needs. `origin` is the number of its region's pixels before it, in plain 0; `second_acts` says that the second pattern acts on it.
+// All that one line needs. `origin` is the number of its region's pixels before it, in plain 0; `second` is the second pattern, where it acts here.
 #[derive(Clone, Copy)]
 pub struct Line {
     pub length: u16,
@@ -63,10 +62,9 @@ pub struct Line {
     pub start: u16,
     pub origin: u32,
     pub repetitions: u16,
-    pub mask1: Mask,
-    pub mask2: Mask,
-    pub second_acts: bool,
-    pub second: Pattern,
+    pub mask1: Option<Mask>,
+    pub mask2: Option<Mask>,
+    pub second: Option<Pattern>,
     pub gates: [Pulse; 5],
     pub subck: Pulse,
     pub mshut: Span,
@@ -88,24 +86,9 @@ pub struct Strip {
     pub shutters: [Shutter; 2],
 }
 
+// A line of the field and a pixel of it.
 #[derive(Clone, Copy)]
-pub struct LevelAnswer {
-    pub verdict: Verdict,
-    pub word: u16,
-}
-
-#[derive(Clone, Copy)]
-pub struct Located {
-    pub verdict: Verdict,
-    pub line: u64,
-    pub pixel: u64,
-}
-
-// Whether there is a next edge, and where.
-#[derive(Clone, Copy)]
-pub struct Edge {
-    pub verdict: Verdict,
-    pub found: bool,
+pub struct LinePixel {
     pub line: u64,
     pub pixel: u64,
 }

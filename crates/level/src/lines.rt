@@ -1,6 +1,7 @@
 // The line of a number: where everything acts on it, worked out from the rule version, the tables and the field. What the lines of a region share is
 // taken once a region.
 ghost use Rattle.std.specs.Prelude.{◌<◌, ◌+◌, ◌/◌, ◌%◌, ◌≡◌, cond, ◌&&◌, eqb};
+ghost use Rattle.std.specs.Bool.{then_some};
 ghost use Rattle.profile.specs.Geometry.{product_pixels};
 ghost use Rattle.profile.specs.Rules.{has_second};
 ghost use Rattle.level.specs.Line.{on_gate_line, absent_pulse, absent_span, gate_here, gates_here, subck_here, opens_at, closes_at, shutter_here, repeated as repeatedRun, run_of, origin_of, line_in, no_line, line_of};
@@ -8,8 +9,8 @@ ghost use Rattle.level.specs.Strips.{strip_of, line_on};
 
 use crate::{Line, Mask, Pulse, Run, Span, Strip};
 use profile::{
-    Field, Gate, Mode, Shutter, Subck, Tables, empty_pattern, has_second_line, lines_pixels,
-    pattern_of, region_at, region_of, repetitions, sequence_of,
+    Field, Gate, Mode, Pattern, Shutter, Subck, Tables, empty_pattern, has_second_line,
+    lines_pixels, pattern_of, region_at, region_of, repetitions, sequence_of,
 };
 
 // How a repetition begins, by the rule version.
@@ -28,8 +29,7 @@ fn run_of(version: u16, mode: Mode) -> Run
     ensures { result ≡ run_of version mode }
 {
     match mode {
-        Mode::Plain => repeated(version),
-        Mode::Sweep => repeated(version),
+        Mode::Plain | Mode::Sweep => repeated(version),
         Mode::Multiplier => Run::Multiplied,
     }
 }
@@ -47,35 +47,30 @@ fn origin_of(mode: Mode, before: u32) -> u32
 {
     match mode {
         Mode::Plain => 0,
-        Mode::Sweep => before,
-        Mode::Multiplier => before,
+        Mode::Sweep | Mode::Multiplier => before,
     }
 }
 
-// A freeze and resume pair, turned on by its bit of the mask.
-fn mask_of(mask: u16, bit: u16, freeze: u16, resume: u16) -> Mask
+// A freeze and resume pair, where its bit of the mask turns it on.
+fn mask_of(mask: u16, bit: u16, freeze: u16, resume: u16) -> Option<Mask>
     requires { 0 < bit }
-    ensures { result ≡ record { on = eqb (mask / bit % 2) 1; freeze = freeze; resume = resume } }
+    ensures { result ≡ then_some (eqb (mask / bit % 2) 1) (record { freeze = freeze; resume = resume }) }
 {
-    Mask {
-        on: mask / bit % 2 == 1,
-        freeze: freeze,
-        resume: resume,
-    }
+    (mask / bit % 2 == 1).then_some(Mask { freeze, resume })
 }
 
 // Whether gates and the second pattern act on a line.
 fn on_gate_line(field: Field, line: u16) -> bool
     ensures { result ≡ on_gate_line field line }
 {
-    (line == field.gate) | (has_second_line(field) & (line == field.gate2))
+    line == field.gate || has_second_line(field) && line == field.gate2
 }
 
-// Whether there is a second pattern, and it acts here.
-fn doubles(field: Field, here: bool) -> bool
-    ensures { result ≡ (has_second field && here) }
+// The second pattern, where there is one and it acts here.
+fn second_here(field: Field, second: Pattern, here: bool) -> Option<Pattern>
+    ensures { result ≡ then_some (has_second field && here) second }
 {
-    (field.second != 65535) & here
+    (field.second != 65535 && here).then_some(second)
 }
 
 // What a gate or SUBCK shows that is absent.
@@ -83,10 +78,8 @@ fn absent_pulse() -> Pulse
     ensures { result ≡ absent_pulse }
 {
     Pulse {
-        acts: false,
         level: 1,
-        toggle1: 0,
-        toggle2: 0,
+        toggles: None,
     }
 }
 
@@ -106,17 +99,16 @@ fn gate_here(gate: Gate, here: bool) -> Pulse
     ensures { result ≡ gate_here gate here }
 {
     if gate.present {
+        let acts = gate.on == 1 && here;
         return Pulse {
-            acts: (gate.on == 1) & here,
             level: gate.level,
-            toggle1: gate.toggle1,
-            toggle2: gate.toggle2,
+            toggles: acts.then_some((gate.toggle1, gate.toggle2)),
         };
     }
     absent_pulse()
 }
 
-// VSG1 to VSG5 on a line.
+// VSG1 to VSG5 on a line. One by one: of what `map` gives by a closure that captures `here` the proof did not close.
 fn gates_here(gates: [Gate; 5], here: bool) -> [Pulse; 5]
     ensures { result ≡ gates_here gates here }
 {
@@ -134,13 +126,13 @@ fn subck_here(subck: Subck, gate: u16, line: u16) -> Pulse
     ensures { result ≡ subck_here subck gate line }
 {
     if subck.present {
-        let from = (gate as u32) + (subck.suppressed as u32);
-        let to = from + (subck.count as u32);
+        let from = u32::from(gate) + u32::from(subck.suppressed);
+        let to = from + u32::from(subck.count);
+        let here = u32::from(line);
+        let acts = from <= here && here < to;
         return Pulse {
-            acts: (from <= (line as u32)) & ((line as u32) < to),
             level: subck.level,
-            toggle1: subck.toggle1,
-            toggle2: subck.toggle2,
+            toggles: acts.then_some((subck.toggle1, subck.toggle2)),
         };
     }
     absent_pulse()
@@ -173,7 +165,7 @@ fn shutter_here(shutter: Shutter, line: u16, length: u16) -> Span
     if !shutter.present {
         return absent_span();
     }
-    if (shutter.on_line <= line) & (line <= shutter.off_line) {
+    if shutter.on_line <= line && line <= shutter.off_line {
         return Span {
             level: shutter.active,
             from: opens_at(shutter, line),
@@ -191,7 +183,7 @@ fn shutter_here(shutter: Shutter, line: u16, length: u16) -> Span
 fn length_on(lines: u16, last: u16, length: u16, line: u16) -> u16
     ensures { result ≡ cond (eqb (line + 1) lines) last length }
 {
-    if (line as u32) + 1 == (lines as u32) {
+    if u32::from(line) + 1 == u32::from(lines) {
         return last;
     }
     length
@@ -204,21 +196,20 @@ pub fn strip_of(version: u16, tables: Tables, field: Field, i: usize) -> Strip
     let region = region_at(field, i);
     let mode = region.mode;
     let sequence = sequence_of(tables, region.sequence);
-    let registers = tables.registers;
+    // Arrays by variables: no proof is made of a literal that takes an array field straight.
     let gates = tables.gates;
-    let subck = tables.subck;
     let shutters = tables.shutters;
     Strip {
         run: run_of(version, mode),
-        mode: mode,
+        mode,
         first: region.first,
-        sequence: sequence,
-        pattern: pattern_of(registers, sequence.pattern),
-        field: field,
-        second: pattern_of(registers, field.second),
-        gates: gates,
-        subck: subck,
-        shutters: shutters,
+        sequence,
+        pattern: pattern_of(tables.registers, sequence.pattern),
+        field,
+        second: pattern_of(tables.registers, field.second),
+        gates,
+        subck: tables.subck,
+        shutters,
     }
 }
 
@@ -226,33 +217,26 @@ pub fn strip_of(version: u16, tables: Tables, field: Field, i: usize) -> Strip
 pub fn line_on(strip: Strip, line: u16) -> Line
     ensures { result ≡ line_on strip line }
 {
-    let run = strip.run;
-    let mode = strip.mode;
     let sequence = strip.sequence;
     let pattern = strip.pattern;
     let field = strip.field;
-    let second = strip.second;
-    let gates = strip.gates;
-    let subck = strip.subck;
-    let shutters = strip.shutters;
     let length = length_on(field.lines, field.last, sequence.length, line);
     let before = pixels_before(strip.first, field.lines, field.last, sequence.length, line);
     let here = on_gate_line(field, line);
     Line {
-        length: length,
-        run: run,
-        pattern: pattern,
+        length,
+        run: strip.run,
+        pattern,
         start: sequence.start,
-        origin: origin_of(mode, before),
+        origin: origin_of(strip.mode, before),
         repetitions: repetitions(sequence, line as u64),
         mask1: mask_of(sequence.mask, 1, pattern.freeze1, pattern.resume1),
         mask2: mask_of(sequence.mask, 2, pattern.freeze2, pattern.resume2),
-        second_acts: doubles(field, here),
-        second: second,
-        gates: gates_here(gates, here),
-        subck: subck_here(subck, field.gate, line),
-        mshut: shutter_here(shutters[0], line, length),
-        strobe: shutter_here(shutters[1], line, length),
+        second: second_here(field, strip.second, here),
+        gates: gates_here(strip.gates, here),
+        subck: subck_here(strip.subck, field.gate, line),
+        mshut: shutter_here(strip.shutters[0], line, length),
+        strobe: shutter_here(strip.shutters[1], line, length),
     }
 }
 
@@ -267,11 +251,6 @@ fn line_in(version: u16, tables: Tables, field: Field, line: u16, i: usize) -> L
 fn no_line() -> Line
     ensures { result ≡ no_line }
 {
-    let mask = Mask {
-        on: false,
-        freeze: 0,
-        resume: 0,
-    };
     let pulse = absent_pulse();
     let span = absent_span();
     Line {
@@ -281,10 +260,9 @@ fn no_line() -> Line
         start: 0,
         origin: 0,
         repetitions: 0,
-        mask1: mask,
-        mask2: mask,
-        second_acts: false,
-        second: empty_pattern(),
+        mask1: None,
+        mask2: None,
+        second: None,
         gates: [pulse; 5],
         subck: pulse,
         mshut: span,
@@ -296,7 +274,7 @@ fn no_line() -> Line
 pub fn line_of(version: u16, tables: Tables, field: Field, line: u64) -> Line
     ensures { result ≡ line_of version tables field line }
 {
-    if (field.lines as u64) <= line {
+    if field.lines as u64 <= line {
         return no_line();
     }
     line_in(version, tables, field, line as u16, region_of(field, line))

@@ -1,102 +1,68 @@
 // A line made ready: each toggle becomes a key, each gate, SUBCK and shutter two edges.
-ghost use Rattle.std.specs.Prelude.{ℕ, ◌<◌, ◌≡◌};
+ghost use Rattle.std.specs.Prelude.{ℕ, ◌<◌, ◌≡◌, get_or};
 ghost use Rattle.level.specs.Word.{pulse_level, span_level};
 ghost use Rattle.level.specs.Keys.{key_of};
-ghost use Rattle.level.specs.Ready.{second_at, second_edge, edges_at, edges_edge, eight_at, eight_edge};
+ghost use Rattle.level.specs.Eight.{edges_at, edges_edge, eight_at, eight_edge};
 ghost use Rattle.level.specs.declared.Run.TheVariants.{Afresh, Carried, Multiplied};
-ghost use Rattle.level.specs.Edges.{first_edge_of, second_edge_of, pulse_edge, span_edge, others_edge};
-ghost use Rattle.level.specs.Made.{keyed, Makes, first_word, second_word, others_word, ReadyFor};
+ghost use Rattle.level.specs.Edges.{first_edge_of, pulse_edge, span_edge, others_edge};
+ghost use Rattle.level.specs.Made.{keyed, Makes, Seconds, first_word, others_word, ReadyFor};
 
 use crate::first::First;
 use crate::keys::six;
-use crate::others::{Edges, others_of};
+use crate::others::{Edges, Others};
 use crate::ready::Ready;
 use crate::second::Second;
 use crate::{Line, Pulse, Run, Span};
 use profile::Pattern;
 
-// Plain and sweep: a toggle is its own key.
-fn wide(x: u16) -> u32
-    ensures { result ≡ x }
-{
-    x as u32
-}
-
 // Multiplier and second pattern: 4095 is unused.
 fn key(x: u16) -> u32
     ensures { result ≡ key_of x }
 {
-    if x == 4095 {
-        return 65536;
+    if x == 4095 { 65536 } else { u32::from(x) }
+}
+
+// Eighteen toggles, each as its key. By a loop: by the array's `map` a field of few edges takes a quarter longer.
+fn keys_of<F: Fn(u16) -> u32>(t: &[u16; 18], key: F) -> [u32; 18]
+    requires { F.IsAlwaysCallable key }
+    ensures { (i : ℕ) → i < 18 → F.post key (get_or t.now i 0) (get_or result i 0) }
+{
+    let mut keys = [0; 18];
+    for i in 0..18 {
+        keys[i] = key(t[i]);
     }
-    wide(x)
+    keys
 }
 
-fn run_keys(t: [u16; 18]) -> [u32; 18]
-    ensures { result ≡ keyed (λ x. x) t }
+// Plain and sweep: a toggle is its own key.
+fn run_keys(t: &[u16; 18]) -> [u32; 18]
+    ensures { result ≡ keyed (λ x. x) t.now }
 {
-    [
-        wide(t[0]),
-        wide(t[1]),
-        wide(t[2]),
-        wide(t[3]),
-        wide(t[4]),
-        wide(t[5]),
-        wide(t[6]),
-        wide(t[7]),
-        wide(t[8]),
-        wide(t[9]),
-        wide(t[10]),
-        wide(t[11]),
-        wide(t[12]),
-        wide(t[13]),
-        wide(t[14]),
-        wide(t[15]),
-        wide(t[16]),
-        wide(t[17]),
-    ]
+    keys_of(t, u32::from)
 }
 
-fn used_keys(t: [u16; 18]) -> [u32; 18]
-    ensures { result ≡ keyed (λ x. key_of x) t }
+fn used_keys(t: &[u16; 18]) -> [u32; 18]
+    ensures { result ≡ keyed (λ x. key_of x) t.now }
 {
-    [
-        key(t[0]),
-        key(t[1]),
-        key(t[2]),
-        key(t[3]),
-        key(t[4]),
-        key(t[5]),
-        key(t[6]),
-        key(t[7]),
-        key(t[8]),
-        key(t[9]),
-        key(t[10]),
-        key(t[11]),
-        key(t[12]),
-        key(t[13]),
-        key(t[14]),
-        key(t[15]),
-        key(t[16]),
-        key(t[17]),
-    ]
+    keys_of(t, key)
 }
+
+// One function a run, for a law each shows what it makes. Of a line each is handed the four parts that its law speaks of.
 
 // Each repetition begins with the start levels.
 fn afresh(a: Pattern, start: u16, origin: u32, r: u16) -> First
     ensures { Makes result origin (λ q. first_word Afresh a start r q) (λ q. first_edge_of Afresh a start r q) }
 {
-    let t = a.toggles;
-    let keys = run_keys(t);
-    let levels = six(a.levels, keys, 0);
+    let keys = run_keys(&a.toggles);
+    let levels = six(a.levels, &keys, 0);
     First {
         times: false,
-        levels: levels,
+        levels,
         turned: levels,
         length: a.length,
-        keys: keys,
-        start: start,
-        origin: origin,
+        keys,
+        start,
+        origin,
         repetitions: r,
     }
 }
@@ -105,18 +71,17 @@ fn afresh(a: Pattern, start: u16, origin: u32, r: u16) -> First
 fn carried(a: Pattern, start: u16, origin: u32, r: u16) -> First
     ensures { Makes result origin (λ q. first_word Carried a start r q) (λ q. first_edge_of Carried a start r q) }
 {
-    let t = a.toggles;
-    let keys = run_keys(t);
-    let levels = six(a.levels, keys, 0);
-    let turned = six(a.levels, keys, wide(a.length));
+    let keys = run_keys(&a.toggles);
+    let levels = six(a.levels, &keys, 0);
+    let turned = six(a.levels, &keys, u32::from(a.length));
     First {
         times: false,
-        levels: levels,
-        turned: turned,
+        levels,
+        turned,
         length: a.length,
-        keys: keys,
-        start: start,
-        origin: origin,
+        keys,
+        start,
+        origin,
         repetitions: r,
     }
 }
@@ -124,17 +89,16 @@ fn carried(a: Pattern, start: u16, origin: u32, r: u16) -> First
 fn multiplied(a: Pattern, start: u16, origin: u32, r: u16) -> First
     ensures { Makes result origin (λ q. first_word Multiplied a start r q) (λ q. first_edge_of Multiplied a start r q) }
 {
-    let t = a.toggles;
-    let keys = used_keys(t);
-    let levels = six(a.levels, keys, 0);
+    let keys = used_keys(&a.toggles);
+    let levels = six(a.levels, &keys, 0);
     First {
         times: true,
-        levels: levels,
+        levels,
         turned: levels,
         length: a.length,
-        keys: keys,
-        start: start,
-        origin: origin,
+        keys,
+        start,
+        origin,
         repetitions: r,
     }
 }
@@ -151,18 +115,16 @@ fn first_of(run: Run, a: Pattern, start: u16, origin: u32, r: u16) -> First
 }
 
 // The second pattern made ready.
-fn second_of(acts: bool, a: Pattern) -> Second
-    ensures acts_value { (result.acts ≡ acts) × (result.length ≡ a.length) × ((p : ℕ) → p < 65536 → second_at result p ≡ second_word a p) }
-    ensures by_index { (p : ℕ) → p < 65536 → second_edge result p ≡ second_edge_of a p }
+fn second_of(second: Option<Pattern>) -> Option<Second>
+    ensures { Seconds result second }
 {
-    let t = a.toggles;
-    let keys = used_keys(t);
-    Second {
-        acts: acts,
+    let a = second?;
+    let keys = used_keys(&a.toggles);
+    Some(Second {
         levels: a.levels,
         length: a.length,
-        keys: keys,
-    }
+        keys,
+    })
 }
 
 // A gate or SUBCK: where it does not act, two edges at one place leave its level.
@@ -170,17 +132,11 @@ fn pulse_edges(g: Pulse) -> Edges
     ensures by_index { (p : ℕ) → edges_at result p ≡ pulse_level g p }
     ensures by_index_2 { (p : ℕ) → 0 < p → edges_edge result p ≡ pulse_edge g p }
 {
-    if g.acts {
-        return Edges {
-            level: g.level,
-            on: g.toggle1,
-            off: g.toggle2,
-        };
-    }
+    let (on, off) = g.toggles.unwrap_or((0, 0));
     Edges {
         level: g.level,
-        on: 0,
-        off: 0,
+        on,
+        off,
     }
 }
 
@@ -192,13 +148,13 @@ fn span_edges(s: Span) -> Edges
     let level = s.level % 2 + 1;
     if s.from <= s.to {
         return Edges {
-            level: level,
+            level,
             on: s.from,
             off: s.to,
         };
     }
     Edges {
-        level: level,
+        level,
         on: 0,
         off: 0,
     }
@@ -225,23 +181,18 @@ fn edges_of(gates: [Pulse; 5], subck: Pulse, mshut: Span, strobe: Span) -> [Edge
 pub(crate) fn prepare(line: Line) -> Ready
     ensures { ReadyFor result line }
 {
-    let run = line.run;
-    let a = line.pattern;
-    let first = first_of(run, a, line.start, line.origin, line.repetitions);
-    let b = line.second;
-    let second = second_of(line.second_acts, b);
-    let mask1 = line.mask1;
-    let mask2 = line.mask2;
-    let gates = line.gates;
-    let subck = line.subck;
-    let mshut = line.mshut;
-    let strobe = line.strobe;
-    let others = others_of(edges_of(gates, subck, mshut, strobe));
+    let first = first_of(
+        line.run,
+        line.pattern,
+        line.start,
+        line.origin,
+        line.repetitions,
+    );
     Ready {
-        first: first,
-        second: second,
-        mask1: mask1,
-        mask2: mask2,
-        others: others,
+        first,
+        second: second_of(line.second),
+        mask1: line.mask1,
+        mask2: line.mask2,
+        others: Others::new(edges_of(line.gates, line.subck, line.mshut, line.strobe)),
     }
 }

@@ -3,45 +3,31 @@
 ghost use Rattle.std.specs.Prelude.{◌≡◌, ◌*◌, ◌≤◌, ◌<◌};
 ghost use Rattle.profile.specs.Geometry.{Ordered, region_count, first_line, region_size};
 ghost use Rattle.profile.specs.Versions.{newest_rules};
-ghost use Rattle.level.specs.Place.{level_answer, place_of, place_answer, locate_answer, last_multiple};
+ghost use Rattle.level.specs.Place.{level_told, level_answer, place_of, locate_told, place_answer, locate_answer, last_multiple};
 
+use crate::LinePixel;
 use crate::lines::line_of;
 use crate::pixels::word_of;
-use crate::{LevelAnswer, Located};
 use profile::{
-    Field, Profile, Ruleset, Tables, accept, check_in, has_pixel, newest_rules, refuse, region_at,
+    Field, Profile, Refusal, Ruleset, Tables, check_in, has_pixel, newest_rules, region_at,
     region_count, region_size, sequence_of,
 };
 
-// The word at a line and pixel; 0 where it is refused.
-pub fn level_in(rules: Ruleset, profile: Profile, line: u64, pixel: u64) -> LevelAnswer
-    ensures { result ≡ level_answer rules profile line pixel }
+// The word at a line and pixel.
+pub fn level_in(rules: Ruleset, profile: Profile, line: u64, pixel: u64) -> Result<u16, Refusal>
+    ensures { level_told result ≡ level_answer rules profile line pixel }
 {
-    let verdict = check_in(rules, profile);
-    if verdict.number != 0 {
-        return LevelAnswer {
-            verdict: verdict,
-            word: 0,
-        };
+    check_in(rules, profile)?;
+    if !has_pixel(profile.tables, profile.field, line, pixel) {
+        return Err(Refusal::NoPixel);
     }
-    let tables = profile.tables;
-    let field = profile.field;
-    if !has_pixel(tables, field, line, pixel) {
-        return LevelAnswer {
-            verdict: refuse(19, 0),
-            word: 0,
-        };
-    }
-    let shown = line_of(rules.version, tables, field, line);
-    LevelAnswer {
-        verdict: accept(),
-        word: word_of(shown, pixel as u16),
-    }
+    let shown = line_of(rules.version, profile.tables, profile.field, line);
+    Ok(word_of(shown, pixel as u16))
 }
 
 // The same by the newest rules.
-pub fn level(profile: Profile, line: u64, pixel: u64) -> LevelAnswer
-    ensures { result ≡ level_answer newest_rules profile line pixel }
+pub fn level(profile: Profile, line: u64, pixel: u64) -> Result<u16, Refusal>
+    ensures { level_told result ≡ level_answer newest_rules profile line pixel }
 {
     level_in(newest_rules(), profile, line, pixel)
 }
@@ -58,71 +44,56 @@ fn line_by_division(length: u64, lines: u64, n: u64) -> u64
         return lines - 1;
     }
     let line = n / length;
+    // two cases and no `min`: each is a law of its own
     if line < lines { line } else { lines - 1 }
 }
 
 // The line and pixel of pixel n of region i. Its lines are of one length but for the field's last, which has no line after it.
-fn place_in(tables: Tables, field: Field, i: usize, n: u64) -> Located
+fn place_in(tables: Tables, field: Field, i: usize, n: u64) -> LinePixel
     requires ordered { Ordered field }
     requires i_bound { i < region_count field }
     requires n_bound { n < region_size tables field i }
-    ensures { result ≡ place_answer tables field (place_of tables field (first_line field i) n) }
+    ensures { locate_told (Ok result) ≡ place_answer tables field (place_of tables field (first_line field i) n) }
 {
     let region = region_at(field, i);
     let sequence = sequence_of(tables, region.sequence);
     let first = region.first as u64;
     let length = sequence.length as u64;
     let line = line_by_division(length, (field.lines as u64) - first, n);
-    Located {
-        verdict: accept(),
+    LinePixel {
         line: first + line,
         pixel: n - line * length,
     }
 }
 
 // The line and pixel of pixel n of a field whose regions are in order: each region takes its size off n.
-fn place_of(tables: Tables, field: Field, n: u64) -> Located
+fn place_of(tables: Tables, field: Field, n: u64) -> Result<LinePixel, Refusal>
     requires { Ordered field }
-    ensures { result ≡ place_answer tables field n }
+    ensures { locate_told result ≡ place_answer tables field n }
 {
     let count = region_count(field);
-    let mut i = 0usize;
     let mut left = n;
-    while i < count {
+    for i in 0..count {
         let size = region_size(tables, field, i);
         if left < size {
-            return place_in(tables, field, i, left);
+            return Ok(place_in(tables, field, i, left));
         }
         left -= size;
-        i += 1;
     }
-    Located {
-        verdict: refuse(19, 0),
-        line: 0,
-        pixel: 0,
-    }
+    Err(Refusal::NoPixel)
 }
 
-// The line and pixel of field pixel n; 0 and 0 where it is refused.
-pub fn locate_in(rules: Ruleset, profile: Profile, n: u64) -> Located
-    ensures { result ≡ locate_answer rules profile n }
+// The line and pixel of field pixel n.
+pub fn locate_in(rules: Ruleset, profile: Profile, n: u64) -> Result<LinePixel, Refusal>
+    ensures { locate_told result ≡ locate_answer rules profile n }
 {
-    let verdict = check_in(rules, profile);
-    if verdict.number != 0 {
-        return Located {
-            verdict: verdict,
-            line: 0,
-            pixel: 0,
-        };
-    }
-    let tables = profile.tables;
-    let field = profile.field;
-    place_of(tables, field, n)
+    check_in(rules, profile)?;
+    place_of(profile.tables, profile.field, n)
 }
 
 // The same by the newest rules.
-pub fn locate(profile: Profile, n: u64) -> Located
-    ensures { result ≡ locate_answer newest_rules profile n }
+pub fn locate(profile: Profile, n: u64) -> Result<LinePixel, Refusal>
+    ensures { locate_told result ≡ locate_answer newest_rules profile n }
 {
     locate_in(newest_rules(), profile, n)
 }

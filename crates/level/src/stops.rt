@@ -5,9 +5,9 @@ ghost use Rattle.level.specs.Edges.{stretches_of, stretch_ends, stretch_words};
 
 use crate::Line;
 use crate::made::prepare;
-use crate::ready::reach_at;
 
-// Where a line's stretches end, and their words, as many as both slices have room for. Gives how many.
+// Where a line's stretches end, and their words, side by side as a list's counts and words are, as many as both slices have room for. Gives how
+// many.
 pub fn stretches(line: Line, ends: &mut [u16], words: &mut [u16]) -> usize
     ensures value { result ≡ min (length (stretches_of line)) (min (length ends.old) (length words.old)) }
     ensures ends_after { ends.new ≡ over (take result (stretch_ends line)) ends.old }
@@ -16,14 +16,12 @@ pub fn stretches(line: Line, ends: &mut [u16], words: &mut [u16]) -> usize
     let ready = prepare(line);
     let mut p: u16 = 0;
     let mut n: usize = 0;
+    // A while loop: it goes from stop to stop, and ends where either slice does, which is all that `n` is for.
     while p < line.length {
-        if ends.len() <= n {
+        if ends.len() <= n || words.len() <= n {
             return n;
         }
-        if words.len() <= n {
-            return n;
-        }
-        let here = reach_at(ready, p, line.length);
+        let here = ready.reach_at(p, line.length);
         ends[n] = here.stop;
         words[n] = here.word;
         p = here.stop;

@@ -7,12 +7,11 @@ use native.Mathlib.Omega.{arith}
 use borrow.Author.Tests.{eq-eqb, ne_eqb, le-leb, lt-leb}
 use lib.ListN.{length}
 use Rattle.profile.specs.Lists.{over}
-use Rattle.profile.specs.Values.{accepted, refused}
+use Rattle.profile.specs.Values.{accepted, refused, Written}
 use Rattle.profile.specs.Rules.{check_profile}
 use Rattle.profile.specs.Writing.{write_script, write_answer, write_leaves}
 use Rattle.profile.specs.declared.Profile.{Profile}
 use Rattle.profile.specs.declared.Verdict.{Verdict}
-use Rattle.profile.specs.declared.Written.{Written}
 use Rattle.profile.specs.declared.Ruleset.{Ruleset}
 
 -- the answer r, and l left in the slice, are those that are promised

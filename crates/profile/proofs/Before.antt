@@ -14,7 +14,7 @@ use lib.Dec.{ltb, leb, eqb}
 use lib.ListN.{length, get_or, get_or-eq_default}
 use Rattle.profile.specs.Lists.{all, chunks}
 use Rattle.profile.specs.Bytes.{Bytes, number_at, data_at}
-use Rattle.profile.specs.Values.{Sized, refused}
+use Rattle.profile.specs.Values.{Sized, refused, Written}
 use Rattle.profile.specs.Layout.{parts, half_pattern, half_part, part_limit, half_limit}
 use Rattle.profile.specs.Patterns.{empty_pattern, with_part, pattern_up_to, pattern_of, row_of, is_plain, not4095}
 use Rattle.profile.specs.Geometry.{region_count, region_at, region_of, sequence_at, line_length, region_size, gate_lines}
@@ -63,8 +63,7 @@ use Rattle.profile.specs.declared.Tables.{Tables}
 use Rattle.profile.specs.declared.Field.{Field}
 use Rattle.profile.specs.declared.Profile.{Profile}
 use Rattle.profile.specs.declared.Verdict.{Verdict}
-use Rattle.profile.specs.declared.ReadAnswer.{ReadAnswer}
-use Rattle.profile.specs.declared.Written.{Written}
+use Rattle.profile.specs.Values.{ReadAnswer}
 use Rattle.profile.specs.declared.Ruleset.{Ruleset}
 use Rattle.profile.proofs.Laws.{by_cases, image_at}
 use Rattle.profile.proofs.ByteRange.{bytes_part}

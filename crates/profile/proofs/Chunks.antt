@@ -1,32 +1,37 @@
 -- The code of an upload: the record that is held is filled with the chunk's bytes, and the rest of the chunk is read where it stands. Each part is what the
 -- definition says of the bytes held and the chunk put together.
 -- Assumes nothing.
+use Rattle.std.proofs.Common.{Option, Some, None}
+use Rattle.std.specs.Option.{is_some}
+use Rattle.std.proofs.lemmas.List.{take_rest}
 use mathlib.Core.Path.{◌≡◌, refl, sym, ap, ◌∙◌}
 use mathlib.Core.Bool.{Bool, true, false, not, ◌&&◌, ◌||◌, false≢true}
 use mathlib.Core.List.{List, [], ◌∷◌, ◌++◌, append-nil}
-use Prim.Native.Nat.{ℕ, suc, ◌+◌, ◌-◌, ◌≤◌, ◌<◌}
+use Prim.Native.Nat.{ℕ, suc, ◌+◌, ◌-◌, ◌≤◌, ◌<◌, max}
 use native.Mathlib.Nat.{add-zero}
 use native.Mathlib.Numerals.{add-one}
 use native.Mathlib.Omega.{arith}
-use borrow.Author.Tests.{le-ltb, leb-true, le-leb, lt-leb, ne_eqb}
+use borrow.Author.Tests.{ltb-true, ltb-false, le-ltb, leb-true, le-leb, eqb-true, eqb-false, ne_eqb}
 use lib.Dec.{ltb, leb, eqb}
 use lib.ListN.{length, get_or, set, take, drop, length-set, length-append, length-take, length-drop, take-append-drop}
 use lib.Seq.{drop-nil, drop-drop, drop-cons, drop-set-lt, take-suc-set, length-take-le, take-append_seam, append_snoc}
 use Rattle.profile.specs.Values.{empty_profile, refused, read_answer}
 use Rattle.profile.specs.Script.{Stepped, most_bytes, stop, next, step, judged}
 use Rattle.profile.specs.Upload.{stopped_at, upload, held_bytes, larger, arrived, is_refused, Reached, reached, waiting, refused_at, waits, read_on, counted, take_chunk, records_with, read_with, upload_answer}
-use Rattle.profile.specs.Reading.{verdict_of, reached_answer, cut_front, filled, filled_answer, filled_arrival}
+use Rattle.profile.specs.Refusals.{verdict_of}
+use Rattle.profile.specs.Reading.{Gone, verdict_at, reached_answer, cut_front, filled, filled_answer, filled_arrival, held_refusal}
 use Rattle.profile.specs.declared.Profile.{Profile}
-use Rattle.profile.specs.declared.ReadAnswer.{ReadAnswer}
+use Rattle.profile.specs.Values.{ReadAnswer}
 use Rattle.profile.specs.declared.Ruleset.{Ruleset}
-use Rattle.profile.specs.declared.records.RecordAnswer.{RecordAnswer}
+use Rattle.profile.specs.declared.refusal.Refusal.{Refusal}
+use Rattle.profile.specs.declared.refusal.Refusal.TheVariants as refusal
 use Rattle.profile.specs.declared.upload.Arrival.{Arrival}
 use Rattle.profile.specs.declared.upload.Filled.{Filled}
 use Rattle.profile.specs.declared.upload.Upload.{Upload}
-use Rattle.profile.proofs.Laws.{by_cases, and_left, and_not}
+use Rattle.profile.proofs.Laws.{by_cases, and_left, and_right, and_not}
 use Rattle.profile.proofs.Takes.{step-taken, stop_range, reached-end, reached_stop, reached_record, reached_ends, reached_inside, records_read}
 use Rattle.profile.proofs.Cut.{cut_few, step-front, cut_stop, uncut, cut_next, cut_step, cut_nothing, cut_more, Short}
-use Rattle.profile.proofs.Uploads.{held-front, held_inside, held_short, larger-least, rest_cut, chunk_counted, chunk_read, unrefused, too_long}
+use Rattle.profile.proofs.Uploads.{held-front, held_inside, held_short, rest_cut, chunk_counted, chunk_read, unrefused, too_long}
 
 -- ---- a record with as many bytes of a chunk as it waits for
 
@@ -160,17 +165,17 @@ reached_whole [] s n p c e = absurd (false≢true (sym c ∙ cut_nothing))
 reached_whole (x ∷ xs) s n p c e = reached_stop x (xs ++ s) n p (step-front (x ∷ xs) s p (uncut (x ∷ xs) p c) ∙ e)
 
 -- it was taken, whole
-pub record Took (f : List ℕ) (p : Profile) (t : RecordAnswer) : Type 0 where
+pub record Took (f : List ℕ) (p : Profile) (t : Gone) : Type 0 where
   pub len : ℕ
   pub long : length f ≡ 4 + len
   pub took : step f p ≡ next len t.profile
 
 -- what reading one record says of it
-pub record Judged (f : List ℕ) (p : Profile) (t : RecordAnswer) : Type 0 where
+pub record Judged (f : List ℕ) (p : Profile) (t : Gone) : Type 0 where
   pub taken : t.number ≡ 0 → Took f p t
   pub refused : (t.number ≡ 0 → ⊥) → step f p ≡ stop t.number
 
-one_judged : (f : List ℕ) (p : Profile) (t : RecordAnswer) → t ≡ reached_answer f (reached 0 f p) → Short f → cut_front f ≡ false → Judged f p t
+one_judged : (f : List ℕ) (p : Profile) (t : Gone) → t ≡ reached_answer f (reached 0 f p) → Short f → cut_front f ≡ false → Judged f p t
 one_judged f p t e s c = go (step f p) refl
   where
     nil : f ++ [] ≡ f
@@ -216,17 +221,7 @@ module _ (total : ℕ) (old : List ℕ) (p : Profile) where
     reads-taken len q l t =
         rw (← (filled_split c h).1) (reached_record f behind len p q l (step-front f behind p (uncut f p (cut_next f p len q t)) ∙ t))
 
--- ---- how many bytes have come, by the tests in code
-
-module _ (total more : ℕ) where
-  pub count_over : most_bytes < total → most_bytes + 1 ≡ counted (total + more)
-  count_over h = rw (lt-leb (total + more) most_bytes (omega arith))
-
-  pub count_past : total ≤ most_bytes → most_bytes - total < more → most_bytes + 1 ≡ counted (total + more)
-  count_past l h = rw (lt-leb (total + more) most_bytes (omega arith))
-
-  pub count_few : total ≤ most_bytes → more ≤ most_bytes - total → total + more ≡ counted (total + more)
-  count_few l h = rw (le-leb (total + more) most_bytes (omega arith))
+-- ---- how many bytes have come
 
 over-counted : (total : ℕ) → ltb most_bytes (counted total) ≡ not (leb total most_bytes)
 over-counted total =
@@ -236,16 +231,12 @@ over-counted total =
 
 -- ---- where the chunk's records stop
 
-module _ (total : ℕ) (old s : List ℕ) (number at : ℕ) where
-  pub stopped_waits : waits number ≡ true → cut_front (drop at s) ≡ true → (f : Filled) → f ≡ filled_answer old (filled (take 0 old) (drop at s))
-      → filled_arrival total f ≡ stopped_at total old number (drop at s)
-  stopped_waits q c f g = rw (g, filled-all (drop at s) [] c, q)
-
-  pub stopped_refused : waits number ≡ false → refused_at total number (total - (length s - at)) old ≡ stopped_at total old number (drop at s)
-  stopped_refused q = rw (q, length-drop)
+pub stopped_waits : (total : ℕ) (old s : List ℕ) (number at : ℕ) → waits number ≡ true → cut_front (drop at s) ≡ true → (f : Filled)
+    → f ≡ filled_answer old (filled [] (take (length s - at) (drop at s))) → filled_arrival total f ≡ stopped_at total old number (drop at s)
+stopped_waits total old s number at q c f g = rw (g, take_rest, filled-all (drop at s) [] c, q)
 
 -- the chunk's records from an offset on, by what code answers of how far they go
-module _ (s : List ℕ) (from : ℕ) (p : Profile) (l : from ≤ length s) (t : RecordAnswer) (e : t ≡ reached_answer s (reached 0 (drop from s) p)) where
+module _ (s : List ℕ) (from : ℕ) (p : Profile) (l : from ≤ length s) (t : Gone) (e : t ≡ reached_answer s (reached 0 (drop from s) p)) where
   abbrev r : Reached
   r = reached 0 (drop from s) p
 
@@ -268,30 +259,86 @@ module _ (s : List ℕ) (from : ℕ) (p : Profile) (l : from ≤ length s) (t : 
 
 -- ---- a chunk, by the tests in code
 
+larger_max : (a b : ℕ) → larger a b ≡ max a b
+larger_max a b = by_cases (ltb a b) (λ e. rw e (omega (arith, ltb-true a b e))) (λ e. rw e (omega (arith, ltb-false a b e)))
+
 -- what is known of a state in code: how many bytes it holds, and how many have come
 pub record Stands (u : Upload) (held before : ℕ) : Type 0 where
   pub holds : held ≡ length (held_bytes u.arrival)
-  pub came : before ≡ larger u.arrival.length held
+  pub came : before ≡ max u.arrival.length held
+
+pub stands : (u : Upload) {held before : ℕ} → held ≡ length (held_bytes u.arrival) → before ≡ max u.arrival.length held → Stands u held before
+stands u h b = record { holds = h; came = b }
 
 module _ {u : Upload} {held before : ℕ} (k : Stands u held before) where
   stands_arrived : arrived u.arrival ≡ before
-  stands_arrived = rw (k.came, k.holds)
+  stands_arrived = larger_max u.arrival.length (length (held_bytes u.arrival)) ∙ rw (k.came, k.holds)
 
   pub stands_below : held ≤ before
-  stands_below = rw k.came (larger-least u.arrival.length held).1
+  stands_below = omega (arith, k.came)
 
   pub stands_inside : held ≤ length u.arrival.bytes
   stands_inside = rw k.holds (held_inside u.arrival)
 
-  pub stands_next : {t : RecordAnswer}
+  pub stands_next : {t : Gone}
       → t ≡ reached_answer (take held u.arrival.bytes) (reached 0 (drop 0 (take held u.arrival.bytes)) u.profile) → t.next ≤ held
   stands_next e = rw e (omega (arith, length-take held u.arrival.bytes))
+
+-- a refusal that is held, by its number and its place
+pub held_some : (a : Arrival) (r : Refusal) → Some r ≡ held_refusal a → (is_refused a.number ≡ true) × (verdict_of r ≡ refused a.number a.place)
+held_some a r e =
+    by_cases (eqb a.number 3)
+    (λ q. let z : r ≡ refusal.UnknownKind a.place = some_is (rw q at e) in rw (z, eqb-true a.number 3 q) (refl, refl))
+    (λ q3.
+    by_cases (eqb a.number 4)
+    (λ q. let z : r ≡ refusal.WrongLength a.place = some_is (rw (q3, q) at e) in rw (z, eqb-true a.number 4 q) (refl, refl))
+    (λ q4.
+    by_cases (eqb a.number 5)
+    (λ q. let z : r ≡ refusal.OutOfRange a.place = some_is (rw (q3, q4, q) at e) in rw (z, eqb-true a.number 5 q) (refl, refl))
+    (λ q5. absurd (none_some (rw (q3, q4, q5) at e)))))
+  where
+    some_is : {x y : Refusal} → Some x ≡ Some y → x ≡ y
+    some_is e = cc
+
+    none_some : {x : Refusal} → Some x ≡ None → ⊥
+    none_some e = cc
+
+pub held_none : (a : Arrival) → None ≡ held_refusal a → is_refused a.number ≡ false
+held_none a e =
+    by_cases (is_refused a.number)
+    (λ q.
+    let low = leb-true 3 a.number (and_left (leb 3 a.number) _ q) in
+    let high = leb-true a.number 5 (and_right (leb 3 a.number) _ q) in
+    absurd
+    (by_cases (eqb a.number 3)
+    (λ q3. no (rw q3 at e))
+    (λ q3.
+    by_cases (eqb a.number 4)
+    (λ q4. no (rw (q3, q4) at e))
+    (λ q4.
+    by_cases (eqb a.number 5)
+    (λ q5. no (rw (q3, q4, q5) at e))
+    (λ q5. omega (arith, eqb-false a.number 3 q3, eqb-false a.number 4 q4, eqb-false a.number 5 q5))))))
+    (λ q. q)
+  where
+    no : {x : Refusal} → None ≡ Some x → ⊥
+    no e = cc
+
+pub held_told : (a : Arrival) (r : Option Refusal) → r ≡ held_refusal a → is_some r ≡ is_refused a.number
+held_told a None e = sym (held_none a e)
+held_told a (Some r) e = sym (held_some a r e).0
 
 -- and when a chunk is taken: how many have come with it, and whether a refusal is held
 pub record Fed (u : Upload) (c : List ℕ) (held before total : ℕ) (refuses : Bool) : Type 0 where
   pub stands : Stands u held before
   pub comes : total ≡ counted (before + length c)
   pub told : refuses ≡ is_refused u.arrival.number
+
+pub fed : (u : Upload) (c : List ℕ) {held before total : ℕ} {r : Option Refusal} {refuses : Bool} → held ≡ length (held_bytes u.arrival)
+    → before ≡ max u.arrival.length held → total ≡ counted (before + length c) → r ≡ held_refusal u.arrival → refuses ≡ is_some r
+    → Fed u c held before total refuses
+fed u c {r = r} h b t e s =
+    record { stands = stands u h b; comes = t; told = s ∙ held_told u.arrival r e }
 
 module _ {u : Upload} {c : List ℕ} {held before total : ℕ} {refuses : Bool} (k : Fed u c held before total refuses) where
   abbrev at : Arrival
@@ -352,7 +399,7 @@ module _ {u : Upload} {c : List ℕ} {held before total : ℕ} {refuses : Bool} 
           let n = length-append (held_bytes at) c in
           rw (front-is, k.stands.holds) (i.0, omega arith)
 
-      module _ {t : RecordAnswer}
+      module _ {t : Gone}
           (e : t ≡ reached_answer (take f.held f.bytes) (reached 0 (drop 0 (take f.held f.bytes)) u.profile))
           (q : f.cut ≡ false) where
         front-whole : cut_front front ≡ false
@@ -385,28 +432,27 @@ module _ (rules : Ruleset) where
     pub answer-long : most_bytes < total → read_answer (refused 1 0) empty_profile ≡ upload_answer rules u
     answer-long h = sym (too_long rules u [] (omega (arith, stands_arrived k)))
 
-    module _ (few : total ≤ most_bytes) {refuses : Bool} (er : refuses ≡ is_refused u.arrival.number) where
+    module _ (few : total ≤ most_bytes) where
       answer-few : judged rules (records_with u []) ≡ upload_answer rules u
       unfolding read_with
       answer-few = rw (add-zero, le-leb (arrived u.arrival) most_bytes (omega (arith, stands_arrived k)))
 
-      pub answer_refused : refuses ≡ true → read_answer (refused u.arrival.number u.arrival.place) u.profile ≡ upload_answer rules u
-      answer_refused q =
-          let r = sym er ∙ q in
+      pub answer_refused : is_refused u.arrival.number ≡ true → read_answer (refused u.arrival.number u.arrival.place) u.profile ≡ upload_answer rules u
+      answer_refused r =
           let n = leb-true 3 u.arrival.number (and_left (leb 3 u.arrival.number) _ r) in
           let a = read_answer (refused u.arrival.number u.arrival.place) u.profile in
           let e : records_with u [] ≡ a = rw r in
           sym (judged-refused a (omega arith)) ∙ ap (judged rules) (sym e) ∙ answer-few
 
-      module _ {t : RecordAnswer}
+      module _ {t : Gone}
           (e : t ≡ reached_answer (take held u.arrival.bytes) (reached 0 (drop 0 (take held u.arrival.bytes)) u.profile)) where
-        pub answer-read : refuses ≡ false
-            → judged rules (read_answer (verdict_of t.number (total - held + t.next)) t.profile) ≡ upload_answer rules u
+        pub answer-read : is_refused u.arrival.number ≡ false
+            → judged rules (read_answer (verdict_at t.number (total - held + t.next)) t.profile) ≡ upload_answer rules u
         answer-read q =
             let h = held_bytes u.arrival in
             let e' : t ≡ reached_answer h (reached 0 h u.profile) = rw (k.holds, held-front u.arrival) at e in
             let p : total - held + t.next ≡ arrived u.arrival - length h + t.next = omega (arith, k.holds, stands_arrived k) in
             ap (judged rules)
             (records_read h u.profile (arrived u.arrival - length h) (total - held + t.next) t e' p
-            ∙ sym (unrefused u [] (sym er ∙ q) ∙ rw append-nil))
+            ∙ sym (unrefused u [] q ∙ rw append-nil))
             ∙ answer-few

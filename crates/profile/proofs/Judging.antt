@@ -12,29 +12,8 @@ use borrow.Author.Tests.{not-true, not-false, eq-eqb, ne_eqb, leb-true, leb-fals
 use Rattle.profile.specs.Lists.{all, distinct, least, chunks}
 use Rattle.profile.specs.Values.{none, accepted, refused, refused_toggle, accepts}
 use Rattle.profile.specs.Geometry.{region_count, gate_of, line_length, has_second_line, gate_lines, gate_length}
-use Rattle.profile.specs.Patterns.{row_of, rows_of, used, in_order, toggle_fault}
-use Rattle.profile.specs.Rules.{
-  Entry,
-  rule,
-  first_broken,
-  row_right,
-  row_entries,
-  toggle_entries,
-  has_second,
-  second_of,
-  lines_right,
-  second_right,
-  gate_right,
-  order_entries,
-  region_entries,
-  line_entries,
-  gate_entries,
-  subck_entries,
-  shutter_entries,
-  rules_of,
-  judge,
-}
-use Rattle.profile.specs.declared.Mode.{Mode}
+use Rattle.profile.specs.Patterns.{row_of, rows_of, in_order, toggle_fault}
+use Rattle.profile.specs.Rules.{Entry, rule, first_broken, row_right, row_entries, has_second, second_of, lines_right, second_right, gate_right, order_entries, region_entries, line_entries, gate_entries, subck_entries, shutter_entries, rules_of, judge}
 use Rattle.profile.specs.declared.Pattern.{Pattern}
 use Rattle.profile.specs.declared.Gate.{Gate}
 use Rattle.profile.specs.declared.Tables.{Tables}
@@ -46,6 +25,7 @@ use Rattle.profile.proofs.Laws.{by_cases, or_left, tested_no, tested_yes, all_on
 use Rattle.profile.proofs.Tested.{joined-all}
 use Rattle.profile.proofs.Reflects.{says_gate}
 use Rattle.profile.proofs.Entries.{Numbered, fine_then, broken_then, number_accepted, numbered_chunks, chunks_accept}
+use Rattle.profile.proofs.Refusing.{has_number}
 use Rattle.profile.proofs.Checked.{judge_entries, numbered_at, numbered_lines}
 
 -- ---- one entry, and what follows it
@@ -73,19 +53,16 @@ differ_yes n k e = ap not (ne_eqb n k e)
 
 -- ---- two parts
 
-not-accepted : (v : Verdict) → (v.number ≡ 0 → ⊥) → v ≡ accepted → ⊥
-not-accepted v n e = n (ap (λ (w : Verdict). w.number) e)
+not-accepted : {v : Verdict} → 1 ≤ v.number → v ≡ accepted → ⊥
+not-accepted n e = let z = ap (λ (w : Verdict). w.number) e in absurd (omega (arith, n, z))
 
-number_of : {v w : Verdict} → v ≡ w → v.number ≡ 0 → w.number ≡ 0
-number_of e z = sym (ap (λ (w : Verdict). w.number) e) ∙ z
-
-module _ (a b : List Entry) {v : Verdict} (e : v ≡ first_broken a) where
-  pub part_broken : (v.number ≡ 0 → ⊥) → v ≡ first_broken (a ++ b)
-  part_broken n = e ∙ sym (broken_then a b (λ z. not-accepted v n (e ∙ z)))
+module _ (a b : List Entry) where
+  pub part_broken : {v : Verdict} → 1 ≤ v.number → v ≡ first_broken a → v ≡ first_broken (a ++ b)
+  part_broken n e = e ∙ sym (broken_then a b (λ z. not-accepted n (e ∙ z)))
 
   -- past a part that is fine, what follows decides
-  pub part_on : {w : Verdict} → v.number ≡ 0 → Numbered a → w ≡ first_broken b → w ≡ first_broken (a ++ b)
-  part_on z m f = f ∙ sym (fine_then a b m (number_accepted a m (number_of e z)))
+  pub part_on : {w : Verdict} → accepted ≡ first_broken a → Numbered a → w ≡ first_broken b → w ≡ first_broken (a ++ b)
+  part_on e m f = f ∙ sym (fine_then a b m (sym e))
 
 -- ---- a loop over n chunks of entries, the first i of which are fine; m is n in the rules' words
 
@@ -110,20 +87,12 @@ module _ {n m i : ℕ} {f : ℕ → List Entry} (d : Fine n m f i) where
     pub fine-on : accepted ≡ first_broken (f i) → Fine n m f (i + 1)
     fine-on e = record { count = d.count; numbered = d.numbered; most = omega arith; so_far = here ∙ sym e }
 
-    module _ {v : Verdict} (e : v ≡ first_broken (f i)) where
-      pub fine-next : v.number ≡ 0 → Fine n m f (i + 1)
-      fine-next z = fine-on (sym (number_accepted (f i) (d.numbered i) (number_of e z)))
-
-      pub fine-stop : (v.number ≡ 0 → ⊥) → v ≡ first_broken (chunks m f)
-      fine-stop z =
-          let k : (i + 1) + (m - (i + 1)) ≡ m = omega (arith, d.count) in
-          part_broken (chunks (i + 1) f) (chunks (m - (i + 1)) (λ j. f (i + 1 + j))) (e ∙ sym here) z
-          ∙ ap first_broken (sym (chunks_add (i + 1) (m - (i + 1)) f))
-          ∙ ap (λ (j : ℕ). first_broken (chunks j f)) k
-
-      -- v as its rule says it
-      pub fine-refused : {w : Verdict} → v ≡ w → 1 ≤ w.number → v ≡ first_broken (chunks m f)
-      fine-refused r p = fine-stop (λ z. absurd (omega (arith, number_of r z)))
+    pub fine-stop : {v : Verdict} → 1 ≤ v.number → v ≡ first_broken (f i) → v ≡ first_broken (chunks m f)
+    fine-stop n e =
+        let k : (i + 1) + (m - (i + 1)) ≡ m = omega (arith, d.count) in
+        part_broken (chunks (i + 1) f) (chunks (m - (i + 1)) (λ j. f (i + 1 + j))) n (e ∙ sym here)
+        ∙ ap first_broken (sym (chunks_add (i + 1) (m - (i + 1)) f))
+        ∙ ap (λ (j : ℕ). first_broken (chunks j f)) k
 
 -- 15 on a line of the given length
 abbrev pub gates_on : Tables → ℕ → ℕ → List Entry
@@ -174,9 +143,9 @@ module _ (i : ℕ) (uses : ℕ → Bool) (row : List ℕ) (k : ℕ) where
       (λ b. rw b)
 
   module _ {fault : ℕ} (e : fault ≡ toggle_fault uses row) where
-    pub row-broken : (fault ≡ 0 → ⊥) → {v : Verdict} → v ≡ refused_toggle i (k + 1) fault → v ≡ first_broken (row_entries i uses row k)
+    pub row-broken : (fault ≡ 0 → ⊥) → refused_toggle i (k + 1) fault ≡ first_broken (row_entries i uses row k)
     unfolding row_right
-    row-broken n f = f ∙ sym (row-verdict ∙ rw (← e, ne_eqb fault 0 n))
+    row-broken n = sym (row-verdict ∙ rw (← e, ne_eqb fault 0 n))
 
     pub row_fine : fault ≡ 0 → accepted ≡ first_broken (row_entries i uses row k)
     unfolding row_right
@@ -193,11 +162,6 @@ pub rows_entries : {v : Verdict} {rows : List (List ℕ)} (i : ℕ) (uses : ℕ 
     → v ≡ first_broken (chunks 6 (λ k. row_entries i uses (get_or rows k []) k)) → v ≡ first_broken (chunks 6 (λ k. row_entries i uses (row_of l k) k))
 unfolding chunks
 rows_entries i uses l e f = f ∙ rw e
-
--- past toggles that are in order, what follows decides
-pub toggles_on : (i : ℕ) (m : Mode) (a : Pattern) {v : Verdict} → v ≡ first_broken (chunks 6 (toggle_entries i m a)) → v.number ≡ 0
-    → (es : List Entry) {w : Verdict} → w ≡ first_broken es → w ≡ first_broken (chunks 6 (toggle_entries i m a) ++ es)
-toggles_on i m a e z es = part_on _ es e z (numbered_chunks 6 _ (numbered_rows i (used m a.length) (row_of a.toggles)))
 
 -- "its toggles obey 10": no entry of them is broken exactly where each row is right
 pub rows_right : {v : Verdict} (i : ℕ) (uses : ℕ → Bool) (l : List ℕ) → v ≡ first_broken (chunks 6 (λ k. row_entries i uses (row_of l k) k))
@@ -299,6 +263,7 @@ pub ruleset judging = (
   head_broken,
   head_on,
   none_broken,
+  has_number,
   part_broken,
   part_on,
   tested_no,
@@ -321,4 +286,4 @@ pub ruleset judging = (
 )
 
 -- and in a loop over entries
-pub ruleset passing = (fine_start, fine_end, fine-on, fine-next, fine-refused, fine-stop, judging)
+pub ruleset passing = (fine_start, fine_end, fine-on, fine-stop, judging)

@@ -221,6 +221,8 @@ sum-none g = refl
 pub sum-next : (g : ℕ → ℕ) (n : ℕ) → sum g 0 (n + 1) ≡ sum g 0 n + g n
 sum-next g n = sum_more g 0 n ∙ ap (λ (k : ℕ). sum g 0 n + g k) (zero-add n)
 
+pub ruleset summing = (sum-none, sum-next)
+
 pub sum_ext : (g h : ℕ → ℕ) (a n : ℕ) → ((i : ℕ) → a ≤ i → i < a + n → g i ≡ h i) → sum g a n ≡ sum h a n
 unfolding sum
 sum_ext g h a zero e = refl
@@ -386,6 +388,8 @@ module _ (start : ℕ → ℕ) (x : ℕ) where
   unfolding last_start
   last_none zero h = refl
   last_none (suc i) h = absurd (omega arith)
+
+pub ruleset starting = (last_here, last_down, last_none)
 
 -- ---- a claim of each element
 

@@ -13,7 +13,7 @@ use lib.ListN.{length, drop, replicate, length-drop}
 use lib.Seq.{length-take-le}
 use Rattle.profile.specs.Lists.{all, distinct, chunks}
 use Rattle.profile.specs.Bytes.{Bytes, number_at, two_bytes, record_of}
-use Rattle.profile.specs.Values.{none, mode_of, empty_region, empty_field, set_tables, set_field, refused, accepts}
+use Rattle.profile.specs.Values.{none, mode_of, empty_region, empty_field, set_tables, set_field, refused, accepts, Written}
 use Rattle.profile.specs.Geometry.{region_count, gate_of, line_length, gate_lines}
 use Rattle.profile.specs.Ranges.{
   region_range,
@@ -87,8 +87,7 @@ use Rattle.profile.specs.declared.Tables.{Tables}
 use Rattle.profile.specs.declared.Field.{Field}
 use Rattle.profile.specs.declared.Profile.{Profile}
 use Rattle.profile.specs.declared.Verdict.{Verdict}
-use Rattle.profile.specs.declared.ReadAnswer.{ReadAnswer}
-use Rattle.profile.specs.declared.Written.{Written}
+use Rattle.profile.specs.Values.{ReadAnswer}
 use Rattle.profile.specs.declared.Ruleset.{Ruleset}
 use Rattle.profile.proofs.Laws.{by_cases, all_one, chunks_ext}
 use Rattle.profile.proofs.Checked.{judge_entries, check_number}

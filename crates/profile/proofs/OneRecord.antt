@@ -1,26 +1,26 @@
 -- The record at an offset: which answer its tests give, and what a step over it leaves.
 -- Assumes nothing.
+use Rattle.std.proofs.Common.{Option, Some, None, Result, Ok, Err}
 use mathlib.Core.Path.{◌≡◌, refl, sym, ap, ◌∙◌}
-use mathlib.Core.Bool.{true, false, cond, ◌&&◌}
+use mathlib.Core.Bool.{true, false}
 use mathlib.Core.List.{List}
-use Prim.Native.Nat.{ℕ, suc, ◌+◌, ◌-◌, ◌≤◌, ◌<◌}
+use Prim.Native.Nat.{ℕ, zero, suc, ◌+◌, ◌-◌, ◌≤◌, ◌<◌}
 use native.Mathlib.Nat.{add-zero}
 use native.Mathlib.Omega.{arith}
-use borrow.Author.Tests.{not-true, not-false, ltb-true, ltb-false, lt-ltb, le-ltb, eqb-true, eqb-false, eq-eqb}
-use lib.Dec.{ltb, eqb}
+use borrow.Author.Tests.{lt-ltb, le-ltb, ne_eqb, le-leb, lt-leb}
+use lib.Dec.{ltb}
 use lib.ListN.{length, get_or, take, drop, length-take, length-drop, drop_of_length-le}
 use lib.Seq.{get_or-drop, drop-drop, drop-cons}
 use Rattle.profile.specs.Bytes.{number_at}
-use Rattle.profile.specs.Values.{refused, accepted, read_answer}
-use Rattle.profile.specs.Script.{known, allowed, fits, with_record, body_of, Stepped, stop, next, step, records}
-use Rattle.profile.specs.Upload.{Reached, reached}
-use Rattle.profile.specs.Reading.{body_answer, unfound, found_front, found_at, step_answer, record_answer, reached_answer}
+use Rattle.profile.specs.Script.{known, allowed, fits, with_record, body_of, Stepped, stop, next, step}
+use Rattle.profile.specs.Upload.{reached}
+use Rattle.profile.specs.Reading.{when, kind_number, kind_of, fault_number, Sought, unfound, found_front, found_at, Gone, step_answer, reached_answer}
 use Rattle.profile.specs.declared.Profile.{Profile}
-use Rattle.profile.specs.declared.records.BodyAnswer.{BodyAnswer}
-use Rattle.profile.specs.declared.records.Found.{Found}
-use Rattle.profile.specs.declared.records.RecordAnswer.{RecordAnswer}
-use Rattle.profile.proofs.Laws.{by_cases, and_left, and_right, tested_no, tested_yes}
-use Rattle.profile.proofs.Takes.{Whole, known_found, step-next, stop_range, reached-next, reached_stop, reached-end, reads_on, records_stop, records_done}
+use Rattle.profile.specs.declared.records.Kind.{Kind}
+use Rattle.profile.specs.declared.records.Fault.{Fault}
+use Rattle.profile.specs.declared.records.Fault.TheVariants.{Cut, UnknownKind, WrongLength, OutOfRange}
+use Rattle.profile.proofs.Readers.{when_none, when_some}
+use Rattle.profile.proofs.Takes.{Whole, known_found, step-next, stop_range, reached-next, reached_stop, reached-end}
 
 -- ---- which answer
 
@@ -30,52 +30,90 @@ number_rest s at k =
     let e : at + (k + 1) ≡ at + k + 1 = omega arith in
     rw (get_or-drop at s k 0, get_or-drop at s (k + 1) 0, e)
 
+-- the kind of a number
+kind_past : (n : ℕ) → 6 < n → (known n ≡ false) × (kind_of n ≡ Err UnknownKind)
+kind_past n h = (
+  rw (le-leb 1 n (omega arith), lt-leb n 6 h),
+  simp (
+    ne_eqb n 1 (omega arith),
+    ne_eqb n 2 (omega arith),
+    ne_eqb n 3 (omega arith),
+    ne_eqb n 4 (omega arith),
+    ne_eqb n 5 (omega arith),
+    ne_eqb n 6 (omega arith),
+  ),
+)
+
+ok_err : {k : Kind} {f : Fault} → ◌≡◌ {A = Result Kind Fault} (Ok k) (Err f) → ⊥
+ok_err e = cc
+
+named : {j k : Kind} → ◌≡◌ {A = Result Kind Fault} (Ok k) (Ok j) → kind_number k ≡ kind_number j
+named {j} {k} e = let q : k ≡ j = cc in rw q
+
+kind_yes : (n : ℕ) {k : Kind} → Ok k ≡ kind_of n → (known n ≡ true) × (kind_number k ≡ n)
+kind_yes zero e = cc
+kind_yes (suc zero) e = (refl, named e)
+kind_yes (suc (suc zero)) e = (refl, named e)
+kind_yes (suc (suc (suc zero))) e = (refl, named e)
+kind_yes (suc (suc (suc (suc zero)))) e = (refl, named e)
+kind_yes (suc (suc (suc (suc (suc zero))))) e = (refl, named e)
+kind_yes (suc (suc (suc (suc (suc (suc zero)))))) e = (refl, named e)
+kind_yes (suc (suc (suc (suc (suc (suc (suc n))))))) e = let m = kind_past (suc (suc (suc (suc (suc (suc (suc n))))))) (omega arith) in absurd (ok_err (e ∙ m.1))
+
+kind_no : (n : ℕ) {f : Fault} → Err f ≡ kind_of n → (known n ≡ false) × (f ≡ UnknownKind)
+kind_no zero e = (refl, cc)
+kind_no (suc zero) e = cc
+kind_no (suc (suc zero)) e = cc
+kind_no (suc (suc (suc zero))) e = cc
+kind_no (suc (suc (suc (suc zero)))) e = cc
+kind_no (suc (suc (suc (suc (suc zero))))) e = cc
+kind_no (suc (suc (suc (suc (suc (suc zero)))))) e = cc
+kind_no (suc (suc (suc (suc (suc (suc (suc n))))))) e = let m = kind_past (suc (suc (suc (suc (suc (suc (suc n))))))) (omega arith) in (m.0, cc)
+
 -- each answer, in the order of the tests
-module _ (s : List ℕ) (at : ℕ) where
-  pub no_header : {v : Found} → length s < 4 → v ≡ unfound 2 → v ≡ found_at s at
-  unfolding found_front
-  no_header h a = a ∙ rw (lt-ltb (length (drop at s)) 4 (omega (arith, length-drop at s)))
+module _ (s : List ℕ) (at : ℕ) {rest : ℕ} (left : rest ≡ length s - at) where
+  long : length (drop at s) ≡ rest
+  long = length-drop at s ∙ sym left
 
-  pub header_cut : {v : Found} → length s - 4 < at → v ≡ unfound 2 → v ≡ found_at s at
+  pub no_header : rest < 4 → unfound 2 ≡ found_at s at
   unfolding found_front
-  header_cut h a = a ∙ rw (lt-ltb (length (drop at s)) 4 (omega (arith, length-drop at s)))
+  no_header h = rw (long, lt-ltb rest 4 h)
 
-  module _ (four : 4 ≤ length s) (whole : at ≤ length s - 4) (size kind : ℕ) (ez : size ≡ number_at s at) (ek : kind ≡ number_at s (at + 2)) where
-    header : ltb (length (drop at s)) 4 ≡ false
-    header = le-ltb (length (drop at s)) 4 (omega (arith, length-drop at s))
+  module _ (four : 4 ≤ rest) {size number : ℕ} (ez : size ≡ number_at s at) (en : number ≡ number_at s (at + 2)) where
+    header : ltb rest 4 ≡ false
+    header = le-ltb rest 4 four
 
     size-rest : number_at (drop at s) 0 ≡ size
     size-rest = number_rest s at 0 ∙ rw add-zero (sym ez)
 
-    kind-rest : number_at (drop at s) 2 ≡ kind
-    kind-rest = number_rest s at 2 ∙ sym ek
+    kind-rest : number_at (drop at s) 2 ≡ number
+    kind-rest = number_rest s at 2 ∙ sym en
 
-    pub kind_unknown : {v : Found} → known kind ≡ false → v ≡ unfound 3 → v ≡ found_at s at
+    pub kind_unknown : {f : Fault} → Err f ≡ kind_of number → unfound (fault_number f) ≡ found_at s at
     unfolding found_front
-    kind_unknown e a = a ∙ rw (header, kind-rest, e)
+    kind_unknown e = let k = kind_no number e in rw (k.1, long, header, kind-rest, k.0)
 
-    module _ (e : known kind ≡ true) where
-      pub length_wrong : {v : Found} → allowed kind size ≡ false → v ≡ unfound 4 → v ≡ found_at s at
+    module _ {kind : Kind} (e : Ok kind ≡ kind_of number) where
+      abbrev known-is : (known number ≡ true) × (kind_number kind ≡ number)
+      known-is = kind_yes number e
+
+      pub length_wrong : allowed (kind_number kind) size ≡ false → unfound 4 ≡ found_at s at
       unfolding found_front
-      length_wrong f a = a ∙ rw (header, kind-rest, size-rest, e, f)
+      length_wrong f = rw (long, header, kind-rest, size-rest, known-is.0, ← known-is.1, f)
 
-      module _ (f : allowed kind size ≡ true) where
-        pub body_cut : {v : Found} → length s - 4 - at < size → v ≡ unfound 2 → v ≡ found_at s at
+      module _ (f : allowed (kind_number kind) size ≡ true) where
+        pub body_cut : rest < 4 + size → unfound 2 ≡ found_at s at
         unfolding found_front
-        body_cut h a =
-            a ∙ rw (header, kind-rest, size-rest, e, f, lt-ltb (length (drop at s)) (4 + size) (omega (arith, length-drop at s)))
+        body_cut h = rw (long, header, kind-rest, size-rest, known-is.0, ← known-is.1, f, lt-ltb rest (4 + size) h)
 
-        pub body-found : size ≤ length s - 4 - at
-            → record { number = 0; kind = kind; start = at + 4; end = at + (4 + size) } ≡ found_at s at
+        pub body-found : 4 + size ≤ rest
+            → record { number = 0; kind = kind_number kind; start = at + 4; end = at + (4 + size) } ≡ found_at s at
         unfolding found_front
-        body-found h =
-            rw (header, kind-rest, size-rest, e, f, le-ltb (length (drop at s)) (4 + size) (omega (arith, length-drop at s)))
-
-pub ruleset finding = (no_header, header_cut, kind_unknown, length_wrong, body_cut, tested_no, tested_yes)
+        body-found h = rw (long, header, kind-rest, size-rest, known-is.0, ← known-is.1, f, le-ltb rest (4 + size) h)
 
 -- ---- one record put into a profile
 
-module _ (s : List ℕ) (at : ℕ) (f : Found) (e : f ≡ found_at s at) where
+module _ (s : List ℕ) (at : ℕ) (f : Sought) (e : f ≡ found_at s at) where
   abbrev rest : List ℕ
   rest = drop at s
 
@@ -101,38 +139,45 @@ module _ (s : List ℕ) (at : ℕ) (f : Found) (e : f ≡ found_at s at) where
         let n : length (body_of rest) ≡ number_at rest 0 = simp (length-take, length-drop) (omega (arith, length-drop at s)) in
         rw (part_body, n, w.kind) w.right
 
+  pub step-stopped : (f.number ≡ 0 → ⊥) → (p : Profile) → step rest p ≡ stop f.number
+  step-stopped n p = rw e (((known_found at rest).1 (rw e at n)).stops p)
+
   module _ (p : Profile) where
-    pub step-refused : (f.number ≡ 0 → ⊥) → record { number = f.number; next = at; profile = p } ≡ step_answer at p (step rest p)
-    step-refused n =
-        let k : step rest p ≡ stop f.number = rw e (((known_found at rest).1 (rw e at n)).stops p) in
-        rw k
-
-    module _ (z : f.number ≡ 0) (t : BodyAnswer) where
-      abbrev Read : Type 0
-      Read =
+    module _ (z : f.number ≡ 0) where
+      -- what is read of the body
+      abbrev Read : Option Profile → Type 0
+      Read t =
           t
-          ≡ body_answer (fits f.kind (take (f.end - f.start) (drop f.start s)))
-          (with_record f.kind (take (f.end - f.start) (drop f.start s)) p) p
+          ≡ when (fits f.kind (take (f.end - f.start) (drop f.start s)))
+          (with_record f.kind (take (f.end - f.start) (drop f.start s)) p)
 
-      module _ (b : Read) where
-        body : t ≡ body_answer (fits (number_at rest 2) (body_of rest)) (with_record (number_at rest 2) (body_of rest) p) p
-        body = rw (part_body z, (whole_of z).kind) at b
+      body : {t : Option Profile} → Read t → t ≡ when (fits (number_at rest 2) (body_of rest)) (with_record (number_at rest 2) (body_of rest) p)
+      body b = rw (part_body z, (whole_of z).kind) at b
 
-        pub step-unfit : t.fits ≡ false → record { number = 5; next = at; profile = p } ≡ step_answer at p (step rest p)
-        step-unfit y =
-            let n : fits (number_at rest 2) (body_of rest) ≡ false = rw body at y in
-            rw ((whole_of z).values p, n)
+      pub step-unfit : Read None → record { number = 5; next = at; profile = p } ≡ step_answer at p (step rest p)
+      step-unfit b =
+          let n = when_none (fits (number_at rest 2) (body_of rest)) _ (body b) in
+          rw ((whole_of z).values p, n)
 
-        pub step-next-on : t.fits ≡ true → record { number = 0; next = f.end; profile = t.profile } ≡ step_answer at p (step rest p)
-        step-next-on y =
-            let n : fits (number_at rest 2) (body_of rest) ≡ true = rw body at y in
-            rw ((whole_of z).values p, body, n, (whole_of z).end)
+      pub step-next-on : {q : Profile} → Read (Some q) → record { number = 0; next = f.end; profile = q } ≡ step_answer at p (step rest p)
+      step-next-on b =
+          let n = when_some (fits (number_at rest 2) (body_of rest)) (body b) in
+          rw ((whole_of z).values p, n.0, n.1, (whole_of z).end)
 
-pub ruleset stepping = (part-ordered, part-inside, part-allowed, step-refused, step-unfit, step-next-on, not-true, not-false)
+-- one that was not found whole
+pub faulty : (fault : Fault) → fault_number fault ≡ 0 → ⊥
+faulty Cut z = omega (arith, z)
+faulty UnknownKind z = omega (arith, z)
+faulty WrongLength z = omega (arith, z)
+faulty OutOfRange z = omega (arith, z)
+
+pub step-refused : (s : List ℕ) (at : ℕ) (fault : Fault) → unfound (fault_number fault) ≡ found_at s at → (p : Profile)
+    → record { number = fault_number fault; next = at; profile = p } ≡ step_answer at p (step (drop at s) p)
+step-refused s at fault e p = let k = step-stopped s at (unfound (fault_number fault)) e (faulty fault) p in rw k
 
 -- ---- all records, one after the other
 
-module _ (s : List ℕ) (at : ℕ) (p : Profile) (t : RecordAnswer) (e : t ≡ step_answer at p (step (drop at s) p)) where
+module _ (s : List ℕ) (at : ℕ) (p : Profile) (t : Gone) (e : t ≡ step_answer at p (step (drop at s) p)) where
   -- a step that was taken
   pub record Moved : Type 0 where
     pub len : ℕ
@@ -150,7 +195,7 @@ module _ (s : List ℕ) (at : ℕ) (p : Profile) (t : RecordAnswer) (e : t ≡ s
     where
       go : (x : Stepped) → step (drop at s) p ≡ x → t ≡ step_answer at p x → (t.number ≡ 0 → Moved) × ((t.number ≡ 0 → ⊥) → Halted)
       go (stop n) q e = (
-        (λ z. absurd (omega (arith, (stop_range (drop at s) p n q).0, ap (λ (t : RecordAnswer). t.number) e))),
+        (λ z. absurd (omega (arith, (stop_range (drop at s) p n q).0, ap (λ (t : Gone). t.number) e))),
         λ h. record { refused = rw e q; answer = rw e },
       )
       go (next len r) q e = ((λ z. record { len = len; place = rw e; took = rw e q }), λ h. absurd (h (rw e)))
@@ -168,17 +213,6 @@ module _ (s : List ℕ) (at : ℕ) (p : Profile) (t : RecordAnswer) (e : t ≡ s
       let m = told.0 z in
       omega (arith, step-next (drop at s) p m.len t.profile m.took, length-drop at s)
 
-  pub read_on_lem : t.number ≡ 0 → at < length s → records 0 t.next (drop t.next s) t.profile ≡ records 0 at (drop at s) p
-  read_on_lem z h =
-      let i = inside z (omega arith) in
-      reads_on t.next at (drop t.next s) (drop at s) t.profile p
-      (omega (arith, length-drop t.next s, length-drop at s)) (reach_on z)
-
-  pub read_stop : at < length s → (t.number ≡ 0 → ⊥) → read_answer (refused t.number at) p ≡ records 0 at (drop at s) p
-  read_stop h n =
-      let c = drop-cons s at 0 h in
-      rw c (sym (records_stop (get_or s at 0) (drop (suc at) s) at t.number p (rw c at (told.1 n).refused)))
-
   pub reach_stop : at < length s → (t.number ≡ 0 → ⊥) → t ≡ reached_answer s (reached 0 (drop at s) p)
   reach_stop h n =
       let c = drop-cons s at 0 h in
@@ -188,71 +222,7 @@ module _ (s : List ℕ) (at : ℕ) (p : Profile) (t : RecordAnswer) (e : t ≡ s
       rw c (reached_stop (get_or s at 0) (drop (suc at) s) t.number p (rw c at m.refused)) in
       m.answer ∙ rw (r, k)
 
-pub read_end : (s : List ℕ) (at : ℕ) (p : Profile) → length s ≤ at
-    → read_answer accepted p ≡ records 0 at (drop at s) p
-read_end s at p h = rw (drop_of_length-le s h) (sym (records_done 0 at p))
-
-pub reach_end : (s : List ℕ) (at : ℕ) (p : Profile) → length s ≤ at
-    → record { number = 0; next = length s; profile = p } ≡ reached_answer s (reached 0 (drop at s) p)
-reach_end s at p h =
-    rw (drop_of_length-le s h, reached-end 0 p) (ap (λ (n : ℕ). record { number = 0; next = n; profile = p }) (omega arith))
-
--- a loop over the records: how far the answer goes, and what is left of the way
-pub record Going (s : List ℕ) (w : Reached) (t : RecordAnswer) : Type 0 where
-  pub within : t.next ≤ length s
-  pub on : t.number ≡ 0 → reached 0 (drop t.next s) t.profile ≡ w
-  pub done : (t.number ≡ 0 → ⊥) → t ≡ reached_answer s w
-
-abbrev pub left : List ℕ → RecordAnswer → ℕ
-left s t = length s - t.next + cond (eqb t.number 0) 1 0
-
-pub going_none : (s : List ℕ) (at : ℕ) (p : Profile) → at ≤ length s → Going s (reached 0 (drop at s) p) (record { number = 0; next = at; profile = p })
-going_none s at p h = record { within = h; on = λ z. refl; done = λ n. absurd (n refl) }
-
-module _ {s : List ℕ} {w : Reached} {t : RecordAnswer} (g : Going s w t) where
-  pub going_end : eqb t.number 0 && ltb t.next (length s) ≡ false → t ≡ reached_answer s w
-  going_end e =
-      by_cases (eqb t.number 0)
-      (λ z.
-      let y = eqb-true t.number 0 z in
-      let l = ltb-false t.next (length s) (rw z at e) in
-      let k : t.next ≡ length s = omega (arith, g.within) in
-      ap (λ (n : ℕ). record { number = n; next = t.next; profile = t.profile }) y
-      ∙ ap (λ (n : ℕ). record { number = 0; next = n; profile = t.profile }) k
-      ∙ reach_end s t.next t.profile l
-      ∙ ap (reached_answer s) (g.on y))
-      (λ z. g.done (eqb-false t.number 0 z))
-
-  module _ (v : RecordAnswer) (e : v ≡ record_answer s t.next t.profile) (q : eqb t.number 0 && ltb t.next (length s) ≡ true) where
-    zeroed : t.number ≡ 0
-    zeroed = eqb-true t.number 0 (and_left (eqb t.number 0) _ q)
-
-    below : t.next < length s
-    below = ltb-true t.next (length s) (and_right (eqb t.number 0) _ q)
-
-    abbrev what : (v.number ≡ 0 → Moved s t.next t.profile v e) × ((v.number ≡ 0 → ⊥) → Halted s t.next t.profile v e)
-    what = told s t.next t.profile v e
-
-    pub going_more : Going s w v
-    going_more =
-        record {
-          within =
-              by_cases (eqb v.number 0)
-              (λ z. inside s t.next t.profile v e (eqb-true v.number 0 z) (omega (arith, below)))
-              (λ z. omega (arith, below, ap (λ (r : RecordAnswer). r.next) (what.1 (eqb-false v.number 0 z)).answer));
-          on = λ z. reach_on s t.next t.profile v e z ∙ g.on zeroed;
-          done = λ n. reach_stop s t.next t.profile v e below n ∙ ap (reached_answer s) (g.on zeroed);
-        }
-
-    pub going_less : left s v < left s t
-    going_less =
-        by_cases (eqb v.number 0)
-        (λ z.
-        let y = eq-eqb t.number 0 zeroed in
-        let f = further s t.next t.profile v e (eqb-true v.number 0 z) in
-        let i = going_more.within in
-        rw (z, y) (omega (arith, below)))
-        (λ z.
-        let y = eq-eqb t.number 0 zeroed in
-        let k = ap (λ (r : RecordAnswer). r.next) (what.1 (eqb-false v.number 0 z)).answer in
-        rw (z, y) (omega (arith, below)))
+pub reach_end : (s : List ℕ) (at : ℕ) (p : Profile) → at ≤ length s → length s ≤ at
+    → record { number = 0; next = at; profile = p } ≡ reached_answer s (reached 0 (drop at s) p)
+reach_end s at p h l =
+    rw (drop_of_length-le s l, reached-end 0 p) (ap (λ (n : ℕ). record { number = 0; next = n; profile = p }) (omega arith))

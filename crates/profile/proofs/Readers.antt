@@ -1,11 +1,12 @@
 -- Laws of the readers in code: a test before others, a body's answer, items with a number, a register, a field and its regions.
 -- Assumes nothing.
+use Rattle.std.proofs.Common.{Some, None}
 use mathlib.Core.Path.{◌≡◌, refl, sym, ◌∙◌}
-use mathlib.Core.Bool.{Bool, true, false, not, ◌&&◌}
+use mathlib.Core.Bool.{Bool, true, false, ◌&&◌, false≢true}
 use mathlib.Core.List.{List, [], ◌∷◌, ◌++◌, append_assoc}
 use Prim.Native.Nat.{ℕ, suc, ◌+◌, ◌-◌, ◌*◌, ◌/◌, ◌%◌, ◌≤◌, ◌<◌}
 use native.Mathlib.Omega.{arith}
-use borrow.Author.Tests.{not-true, not-false, leb-true, le-leb, lt-leb, eqb-true, ne_eqb}
+use borrow.Author.Tests.{leb-true, le-leb, lt-leb, eqb-true}
 use lib.Dec.{leb, eqb}
 use lib.ListN.{length, get_or, set, replicate, length-set}
 use lib.Seq.{set_at}
@@ -14,35 +15,8 @@ use Rattle.profile.specs.Values.{mode_of, empty_region, set_tables, set_field, s
 use Rattle.profile.specs.Bytes.{number_at, data_at}
 use Rattle.profile.specs.Layout.{half_limit}
 use Rattle.profile.specs.Ranges.{sequence_range, gate_range, subck_range, shutter_range, field_range, region_range}
-use Rattle.profile.specs.Script.{
-  head_length,
-  region_length,
-  region_start,
-  register_fits,
-  with_register,
-  sequence_from,
-  sequence_fits,
-  with_sequence,
-  gate_from,
-  gate_fits,
-  with_gate,
-  subck_from,
-  subck_fits,
-  with_subck,
-  shutter_from,
-  shutter_fits,
-  with_shutter,
-  region_from,
-  regions_from,
-  has_form,
-  count_from,
-  field_with,
-  region_fits,
-  fits_with,
-  field_fits,
-  by_kind,
-}
-use Rattle.profile.specs.Reading.{body_answer, field_answer, head_from, region_answer, regions_answer}
+use Rattle.profile.specs.Script.{head_length, region_length, region_start, register_fits, with_register, sequence_from, sequence_fits, with_sequence, gate_from, gate_fits, with_gate, subck_from, subck_fits, with_subck, shutter_from, shutter_fits, with_shutter, region_from, regions_from, has_form, count_from, field_with, region_fits, fits_with, field_fits}
+use Rattle.profile.specs.Reading.{when, field_answer, head_from, region_answer, regions_answer}
 use Rattle.profile.specs.declared.Sequence.{Sequence}
 use Rattle.profile.specs.declared.Gate.{Gate}
 use Rattle.profile.specs.declared.Subck.{Subck}
@@ -51,11 +25,8 @@ use Rattle.profile.specs.declared.Tables.{Tables}
 use Rattle.profile.specs.declared.Field.{Field}
 use Rattle.profile.specs.declared.Mode.{Mode}
 use Rattle.profile.specs.declared.Region.{Region}
-use Rattle.profile.specs.declared.records.BodyAnswer.{BodyAnswer}
-use Rattle.profile.specs.declared.records.RegionAnswer.{RegionAnswer}
-use Rattle.profile.specs.declared.records.RegionsAnswer.{RegionsAnswer}
 use Rattle.profile.specs.declared.Profile.{Profile}
-use Rattle.profile.proofs.Laws.{and_left, and_right, tested_no, tested_yes, all_append, chunks_more, length_ones}
+use Rattle.profile.proofs.Laws.{by_cases, and_left, and_right, all_append, all-chunks, chunks_more, length_ones}
 use Rattle.profile.proofs.Tested.{joined-all}
 use Rattle.profile.proofs.Items.{field_count}
 
@@ -68,32 +39,29 @@ all-front true l = refl
 all-front false l = refl
 
 -- an item's number that passed its test, which was joined with those of the item
-pub passed-below : (n k m : ℕ) (r : Bool) → not (leb n k && r) ≡ false → suc k ≡ m → n < m
-passed-below n k m r e h = omega (arith, leb-true n k (and_left (leb n k) r (not-false _ e)))
+pub passed-below : (n k m : ℕ) (r : Bool) → leb n k && r ≡ true → suc k ≡ m → n < m
+passed-below n k m r e h = omega (arith, leb-true n k (and_left (leb n k) r e))
 
--- ---- a kind
+-- ---- what passed its tests
 
--- what stands for a kind that is none of the first five, as the last arm of a match tells it
-pub last_kind : {X A : Type 0} (kind : ℕ) (a b c d e f : A)
-    → ((((X × (kind ≡ 1 → ⊥)) × (kind ≡ 2 → ⊥)) × (kind ≡ 3 → ⊥)) × (kind ≡ 4 → ⊥)) × (kind ≡ 5 → ⊥) → by_kind kind a b c d e f ≡ f
-last_kind kind a b c d e f m =
-    simp (
-      ne_eqb kind 1 m.0.0.0.0.1,
-      ne_eqb kind 2 m.0.0.0.1,
-      ne_eqb kind 3 m.0.0.1,
-      ne_eqb kind 4 m.0.1,
-      ne_eqb kind 5 m.1,
-    )
+module _ {A : Type 0} {fits t : Bool} (h : t ≡ fits) where
+  pub when_no : (x : A) → t ≡ false → None ≡ when fits x
+  when_no x e = rw (← h, e)
+
+  pub when_yes : {x y : A} → t ≡ true → y ≡ x → Some y ≡ when fits x
+  when_yes e f = rw (← h, e, f)
+
+-- and back
+module _ {A : Type 0} where
+  pub when_some : (fits : Bool) {x y : A} → Some y ≡ when fits x → (fits ≡ true) × (y ≡ x)
+  when_some true e = (refl, cc)
+  when_some false e = cc
+
+  pub when_none : (fits : Bool) (x : A) → None ≡ when fits x → fits ≡ false
+  when_none true x e = cc
+  when_none false x e = refl
 
 -- ---- a body
-
-module _ (fits : Bool) {t : Bool} {v : BodyAnswer} (h : t ≡ fits) where
-  pub body_no : (new old : Profile) → not t ≡ true → v ≡ body_answer false old old → v ≡ body_answer fits new old
-  body_no new old e f = f ∙ rw (tested_no h e)
-
-  pub body_yes : (new : Tables) (old : Profile) {q : Tables} → not t ≡ false → v ≡ body_answer true (set_tables q old) old → q ≡ new
-      → v ≡ body_answer fits (set_tables new old) old
-  body_yes new old e f g = f ∙ rw (tested_yes h e, g)
 
 -- an item with a number, as the code has them, that are those of the body: the test of the number before the item's ranges
 item_test : {A : Type 0} (range : A → List Bool) (top : ℕ) {n n' : ℕ} {s s' : A} {r : Bool} → n ≡ n' → s ≡ s' → r ≡ all (range s)
@@ -119,21 +87,27 @@ unfolding subck_fits
 subck_test b es er = er ∙ rw es
 
 -- an item in the tables is that of the body
-module _ (b : List ℕ) (t : Tables) (n : ℕ) where
-  pub sequence-set : (s : Sequence) → n ≡ number_at b 0 → s ≡ sequence_from b → set_sequences (set t.sequences n s) t ≡ with_sequence b t
-  sequence-set s en es = rw (en, es)
+module _ (b : List ℕ) (p : Profile) where
+  abbrev t : Tables
+  t = p.tables
 
-  pub gate_set : (s : Gate) → n ≡ number_at b 0 → s ≡ gate_from b → set_gates (set t.gates n s) t ≡ with_gate b t
-  gate_set s en es = rw (en, es)
+  module _ (n : ℕ) where
+    pub sequence-set : (s : Sequence) → n ≡ number_at b 0 → s ≡ sequence_from b
+        → set_tables (set_sequences (set t.sequences n s) t) p ≡ set_tables (with_sequence b t) p
+    sequence-set s en es = rw (en, es)
 
-  pub shutter_set : (s : Shutter) → n ≡ number_at b 0 → s ≡ shutter_from b → set_shutters (set t.shutters n s) t ≡ with_shutter b t
-  shutter_set s en es = rw (en, es)
+    pub gate_set : (s : Gate) → n ≡ number_at b 0 → s ≡ gate_from b → set_tables (set_gates (set t.gates n s) t) p ≡ set_tables (with_gate b t) p
+    gate_set s en es = rw (en, es)
 
-pub subck_set : (b : List ℕ) (t : Tables) (s : Subck) → s ≡ subck_from b → set_subck s t ≡ with_subck b t
-subck_set b t s es = rw es
+    pub shutter_set : (s : Shutter) → n ≡ number_at b 0 → s ≡ shutter_from b
+        → set_tables (set_shutters (set t.shutters n s) t) p ≡ set_tables (with_shutter b t) p
+    shutter_set s en es = rw (en, es)
+
+  pub subck_set : (s : Subck) → s ≡ subck_from b → set_tables (set_subck s t) p ≡ set_tables (with_subck b t) p
+  subck_set s es = rw es
 
 -- a register: its address, then its halves
-pub register_past : (b : List ℕ) (a : ℕ) → a ≡ get_or b 0 0 → 119 < a → false ≡ register_fits b
+pub register_past : (b : List ℕ) (a : ℕ) → a ≡ get_or b 0 0 → 119 < a → register_fits b ≡ false
 unfolding register_fits all
 register_past b a ea h = rw (← ea, lt-leb a 119 h)
 
@@ -143,20 +117,24 @@ unfolding register_fits all
 register_test b a v ea ev h ex ey = rw (ex, ey, ← ea, ← ev, le-leb a 119 h)
     (joined-all (leb (v % 4096) (half_limit (2 * a))) (leb (v / 4096) (half_limit (2 * a + 1)) ∷ []))
 
-pub register-set : (b : List ℕ) (t : Tables) (a v : ℕ) → a ≡ get_or b 0 0 → v ≡ data_at b 1
-    → set_registers (set (set t.registers (2 * a) (v % 4096)) (2 * a + 1) (v / 4096)) t ≡ with_register b t
-register-set b t a v ea ev = rw (ea, ev)
+pub register-set : (b : List ℕ) (p : Profile) (a v : ℕ) → a ≡ get_or b 0 0 → v ≡ data_at b 1
+    → set_tables (set_registers (set (set p.tables.registers (2 * a) (v % 4096)) (2 * a + 1) (v / 4096)) p.tables) p
+    ≡ set_tables (with_register b p.tables) p
+register-set b p a v ea ev = rw (ea, ev)
 
-pub ruleset reading = (passed-below, body_no, body_yes, sequence-set, gate_set, shutter_set, subck_set, sequence_test, gate_test, shutter_test, subck_test)
+pub ruleset reading = (passed-below, when_no, when_yes, sequence-set, gate_set, shutter_set, subck_set, sequence_test, gate_test, shutter_test, subck_test)
 
 -- ---- a field's regions
 
--- region i, of numbers that are the body's
-pub region_made : (b : List ℕ) (head i first sequence number : ℕ) (mode : Mode) (r : Bool) → first ≡ number_at b (region_start head i)
-    → sequence ≡ number_at b (region_start head i + 2) → number ≡ number_at b (region_start head i + 4) → mode ≡ mode_of number
-    → r ≡ all (region_range (record { first = first; sequence = sequence; mode = mode }))
-    → record { fits = leb number 2 && r; region = record { first = first; sequence = sequence; mode = mode } } ≡ region_answer head b i
-region_made b head i first sequence number mode r ef es en em er = rw (er, em, ef, es, en, all-front)
+-- region i, of numbers that are the body's, and its tests
+module _ (b : List ℕ) (head i : ℕ) {first sequence number : ℕ} {mode : Mode} (ef : first ≡ number_at b (region_start head i))
+    (es : sequence ≡ number_at b (region_start head i + 2)) (en : number ≡ number_at b (region_start head i + 4)) (em : mode ≡ mode_of number) where
+  pub region_made : record { first = first; sequence = sequence; mode = mode } ≡ region_from head b i
+  region_made = rw (em, ef, es, en)
+
+  pub region_test : {r : Bool} → r ≡ all (region_range (record { first = first; sequence = sequence; mode = mode }))
+      → leb number 2 && r ≡ all (region_fits head b i)
+  region_test er = item_test region_range 2 en region_made er
 
 -- an array filled from the front: one element more
 padded_more : {A : Type 0} (n i : ℕ) (f : ℕ → A) (d : A) → i < n
@@ -165,33 +143,35 @@ padded_more n i f d h =
     let k : n - i ≡ suc (n - (i + 1)) = omega arith in
     rw (k, set_at (chunks i (λ k. f k ∷ [])) d (replicate (n - (i + 1)) d) (f i) i (length_ones i f), chunks_more, append_assoc)
 
--- of n regions the first i are read and the rest are empty, and fits is their tests
-pub record Filled (head : ℕ) (b : List ℕ) (n : ℕ) (regions : List Region) (fits : Bool) (i : ℕ) : Type 0 where
-  pub most : i ≤ n
-  pub seven : n ≤ 7
+-- the first i regions are read, they are in range, and the rest are empty
+pub record Filled (head : ℕ) (b : List ℕ) (regions : List Region) (i : ℕ) : Type 0 where
   pub long : length regions ≡ 7
-  pub tested : fits ≡ all (chunks i (region_fits head b))
+  pub tested : all (chunks i (region_fits head b)) ≡ true
   pub filled : regions ≡ regions_from head b i ++ replicate (7 - i) empty_region
 
-pub filled_none : {head : ℕ} {b : List ℕ} {n : ℕ} (none : Region) → n ≤ 7 → none ≡ empty_region → Filled head b n (replicate 7 none) true 0
+pub filled_none : {head : ℕ} {b : List ℕ} (none : Region) → none ≡ empty_region → Filled head b (replicate 7 none) 0
 unfolding all chunks
-filled_none none h e = record { most = omega arith; seven = h; long = refl; tested = refl; filled = rw e }
+filled_none none e = record { long = refl; tested = refl; filled = rw e }
 
-module _ {head : ℕ} {b : List ℕ} {n : ℕ} {regions : List Region} {fits : Bool} {i : ℕ} (w : Filled head b n regions fits i) where
-  pub filled_more : (g : RegionAnswer) → i < n → g ≡ region_answer head b i → Filled head b n (set regions i g.region) (fits && g.fits) (i + 1)
-  filled_more g h e =
+-- one that is not in range
+some_unfit : (f : ℕ → List Bool) (n i : ℕ) → i < n → all (f i) ≡ false → all (chunks n f) ≡ false
+some_unfit f n i h e = by_cases (all (chunks n f)) (λ q. absurd (false≢true (sym e ∙ all-chunks n f q i h))) (λ q. q)
+
+module _ {head : ℕ} {b : List ℕ} {regions : List Region} {i : ℕ} (w : Filled head b regions i) where
+  pub filled_more : (region : Region) → i < 7 → Some region ≡ region_answer head b i → Filled head b (set regions i region) (i + 1)
+  filled_more region h e =
+      let k = when_some (all (region_fits head b i)) e in
       record {
-        most = omega arith;
-        seven = w.seven;
         long = simp length-set w.long;
-        tested = rw (w.tested, e, chunks_more, all_append);
-        filled = rw (w.filled, e) (padded_more 7 i (region_from head b) empty_region (omega (arith, w.seven)));
+        tested = rw (chunks_more, all_append, w.tested) k.0;
+        filled = rw (w.filled, k.1) (padded_more 7 i (region_from head b) empty_region h);
       }
 
-  pub filled-all : n ≤ i → record { fits = fits; regions = regions } ≡ regions_answer head b n
-  filled-all h = let e : i ≡ n = omega (arith, w.most) in rw (w.tested, w.filled, e)
+  pub filled_stop : (n : ℕ) → i < n → None ≡ region_answer head b i → None ≡ regions_answer head b n
+  filled_stop n h e = rw (some_unfit (region_fits head b) n i h (when_none (all (region_fits head b i)) _ e))
 
-pub ruleset filling = (filled_none, filled_more, filled-all)
+  pub filled-all : (n : ℕ) → i ≡ n → Some regions ≡ regions_answer head b n
+  filled-all n e = rw (← e, w.tested, w.filled)
 
 -- ---- a field
 
@@ -205,33 +185,36 @@ module _ (b : List ℕ) {two : Bool} {size : ℕ} {head : Field} {r : Bool} (for
   unfolding field_with
   head_test = rw (tested, made, long) (all-front _ _)
 
-  pub head_no : {v : BodyAnswer} (p : Profile) → not head_right ≡ true → v ≡ body_answer false p p → v ≡ field_answer b p
+  pub head_no : (p : Profile) → head_right ≡ false → None ≡ field_answer b p
   unfolding fits_with
-  head_no p e f = f ∙ rw (← form, sym head_test ∙ not-true _ e)
+  head_no p e = rw (← form, sym head_test ∙ e)
 
-  pub head_count : not head_right ≡ false → (size + region_length * head.count ≤ length b) × (head.count ≤ 7)
+  pub head_count : head_right ≡ true → (size + region_length * head.count ≤ length b) × (head.count ≤ 7)
   head_count e =
-      let t = not-false _ e in
-      let s = eqb-true (size + region_length * head.count) (length b) (and_left _ r t) in
-      let n = field_count head (sym tested ∙ and_right (eqb (size + region_length * head.count) (length b)) r t) in
+      let s = eqb-true (size + region_length * head.count) (length b) (and_left _ r e) in
+      let n = field_count head (sym tested ∙ and_right (eqb (size + region_length * head.count) (length b)) r e) in
       (omega arith, n.1)
 
-  module _ (e : not head_right ≡ false) {g : RegionsAnswer} (eg : g ≡ regions_answer size b head.count) where
-    pub field_fits_lem : g.fits ≡ field_fits b
+  module _ (e : head_right ≡ true) where
+    field_tests : field_fits b ≡ all (chunks head.count (region_fits size b))
     unfolding fits_with
-    field_fits_lem = rw (← form, sym head_test ∙ not-false _ e, eg, made, long)
+    field_tests = rw (← form, sym head_test ∙ e, made, long)
 
-    pub field-yes : (p : Profile) → not g.fits ≡ false → body_answer true (set_field (record {
-      present = head.present;
-      lines = head.lines;
-      last = head.last;
-      gate = head.gate;
-      gate2 = head.gate2;
-      second = head.second;
-      count = head.count;
-      regions = g.regions;
-    }) p) p ≡ field_answer b p
+    pub field_no : (p : Profile) → None ≡ regions_answer size b head.count → None ≡ field_answer b p
+    field_no p g = rw (field_tests, when_none (all (chunks head.count (region_fits size b))) _ g)
+
+    pub field-yes : (p : Profile) {regions : List Region} → Some regions ≡ regions_answer size b head.count
+        → Some (set_field (record {
+          present = head.present;
+          lines = head.lines;
+          last = head.last;
+          gate = head.gate;
+          gate2 = head.gate2;
+          second = head.second;
+          count = head.count;
+          regions = regions;
+        }) p) ≡ field_answer b p
     unfolding field_with
-    field-yes p t = rw (sym field_fits_lem ∙ not-false _ t, eg, made, long, ← form)
-
-pub ruleset reading-field = (head_no, body_no, field_fits_lem, field-yes)
+    field-yes p g =
+        let k = when_some (all (chunks head.count (region_fits size b))) g in
+        rw (field_tests, k.0, k.1, made, long, ← form)

@@ -27,7 +27,7 @@ use Rattle.profile.specs.Rules.{judge, check_profile}
 use Rattle.profile.specs.Script.{most_bytes, body_of, Stepped, stop, next, step, after_first, records, judged, read_script}
 use Rattle.profile.specs.declared.Profile.{Profile}
 use Rattle.profile.specs.declared.Verdict.{Verdict}
-use Rattle.profile.specs.declared.ReadAnswer.{ReadAnswer}
+use Rattle.profile.specs.Values.{ReadAnswer}
 use Rattle.profile.specs.declared.Ruleset.{Ruleset}
 use Rattle.profile.proofs.Laws.{cond-case}
 use Rattle.profile.proofs.Checked.{check_judge, judge_number}

@@ -6,14 +6,16 @@ use native.Mathlib.Numerals.{add-one}
 use native.Mathlib.Omega.{arith}
 use mathlib.Core.Path.{◌≡◌, refl, sym, ap, ◌∙◌}
 use mathlib.Core.List.{List, []}
-use borrow.Author.Tests.{eq-eqb, ne_eqb}
+use borrow.Author.Tests.{eq-eqb, ne_eqb, eqb-true, eqb-false}
+use lib.Dec.{eqb}
 use lib.ListN.{get_or}
+use Rattle.std.specs.Prelude.{Some, None}
 use Rattle.profile.specs.Lists.{chunks}
 use Rattle.profile.specs.Layout.{half_pattern, pattern_named, part_named, Follows}
-use Rattle.profile.specs.Patterns.{empty_pattern, with_part, pattern_up_to, pattern_of, row_of, rows_of, highest_in, highest_used}
+use Rattle.profile.specs.Patterns.{empty_pattern, with_part, pattern_up_to, pattern_of, row_of, rows_of, fault_named, highest_in, highest_used}
 use Rattle.profile.specs.declared.layout.Part.{Part}
 use Rattle.profile.specs.declared.Pattern.{Pattern}
-use Rattle.profile.proofs.Laws.{get_d_ones}
+use Rattle.profile.proofs.Laws.{get_d_ones, by_cases}
 
 pub highest_none : (row : ℕ → List ℕ) → highest_used row 0 ≡ 0
 unfolding highest_used
@@ -22,6 +24,16 @@ highest_none row = refl
 pub highest_more : (row : ℕ → List ℕ) (n : ℕ) → highest_used row (n + 1) ≡ max (highest_used row n) (highest_in (row n))
 unfolding highest_used
 highest_more row n = rw add-one
+
+-- a fault as code answers it
+pub fault_some : (fault : ℕ) {toggle : ℕ} → Some toggle ≡ fault_named fault → (toggle ≡ fault) × (toggle ≡ 0 → ⊥)
+fault_some fault {toggle} e =
+    by_cases (eqb fault 0)
+    (λ u. let n = rw u at e in (cc, λ z. cc))
+    (λ u. let s = rw u at e in let t : toggle ≡ fault = cc in (t, λ z. eqb-false fault 0 u (sym t ∙ z)))
+
+pub fault_none : (fault : ℕ) → None ≡ fault_named fault → fault ≡ 0
+fault_none fault e = by_cases (eqb fault 0) (λ u. eqb-true fault 0 u) (λ u. let s = rw u at e in cc)
 
 -- row k of the six
 pub row_at : (l : List ℕ) (k : ℕ) → k < 6 → get_or (rows_of l) k [] ≡ row_of l k

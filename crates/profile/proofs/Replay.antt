@@ -11,7 +11,7 @@ use lib.Dec.{ltb, leb}
 use lib.ListN.{length}
 use Rattle.profile.specs.Lists.{over}
 use Rattle.profile.specs.Bytes.{Bytes, number_at}
-use Rattle.profile.specs.Values.{empty_profile, accepted, refused, accepts, read_answer}
+use Rattle.profile.specs.Values.{empty_profile, accepted, refused, accepts, read_answer, Written}
 use Rattle.profile.specs.Rules.{judge}
 use Rattle.profile.specs.Script.{
   most_bytes,
@@ -30,8 +30,7 @@ use Rattle.profile.specs.Script.{
 }
 use Rattle.profile.specs.declared.Profile.{Profile}
 use Rattle.profile.specs.declared.Verdict.{Verdict}
-use Rattle.profile.specs.declared.ReadAnswer.{ReadAnswer}
-use Rattle.profile.specs.declared.Written.{Written}
+use Rattle.profile.specs.Values.{ReadAnswer}
 use Rattle.profile.specs.declared.Ruleset.{Ruleset}
 use Rattle.profile.proofs.Laws.{by_cases}
 use Rattle.profile.proofs.ByteRange.{bytes_tail}

@@ -87,7 +87,7 @@ use Rattle.profile.specs.Records.{
 }
 use Rattle.profile.specs.declared.Profile.{Profile}
 use Rattle.profile.specs.declared.Verdict.{Verdict}
-use Rattle.profile.specs.declared.ReadAnswer.{ReadAnswer}
+use Rattle.profile.specs.Values.{ReadAnswer}
 use Rattle.profile.specs.declared.Ruleset.{Ruleset}
 use Rattle.profile.proofs.Laws.{by_cases, or_cases, passed, all-passed, all-chunks, chunks-all}
 use Rattle.profile.proofs.Reflects.{Says, says_le, says_eq, says_and, says_cons}

@@ -1,14 +1,19 @@
--- Runs of stores: a run right after a run is one run, a run from the front is `over`; and what a loop that stores chunk after chunk has stored, or
--- one that adds up their lengths has counted, after k turns.
+-- Runs of stores: a run right after a run is one run, a run from the front is `over`; what a loop that stores chunk after chunk has
+-- stored after k turns; and how many bytes the items of a list take.
 -- Assumes nothing.
 use mathlib.Core.Path.{◌≡◌, refl, sym, ap, ◌∙◌}
 use mathlib.Core.Bool.{Bool, true, false, cond}
 use mathlib.Core.List.{List, [], ◌∷◌, ◌++◌}
 use Prim.Native.Nat.{ℕ, zero, suc, ◌+◌, ◌*◌, ◌/◌, ◌%◌, ◌≤◌, ◌<◌, zero-le}
-use native.Mathlib.Nat.{add-zero, zero-add, suc-mul, mul-suc}
+use native.Mathlib.Nat.{add-zero, zero-add, mul-zero, mul-suc}
 use native.Mathlib.Numerals.{add-one}
 use native.Mathlib.Omega.{arith}
 use lib.ListN.{length, get_or, take, set, length-append}
+use borrow.Rule.Slice.PartMut.{put_mid}
+use Rattle.std.proofs.Common.{append_assoc}
+use Rattle.std.proofs.lemmas.List.{drop-drop}
+use Rattle.std.proofs.lemmas.List.Sums.{count_by_more_yes, count_by_more_no}
+use Rattle.std.specs.List.{count_by}
 use lib.Seq.{sets, sets-eq, length-sets, take-suc, take_all}
 use Rattle.profile.specs.Lists.{chunks, over}
 use Rattle.profile.specs.Bytes.{two_bytes}
@@ -39,6 +44,10 @@ sets_more l (a ∷ vs) ws i k e = sets_more (set l i a) vs ws (suc i) k (omega a
 -- a run of stores from 0
 pub sets_front : {A : Type 0} (vs l : List A) → length vs ≤ length l → sets l 0 vs ≡ over vs l
 sets_front vs l h = sets-eq vs l 0 (omega arith) ∙ rw zero-add
+
+-- a part of a slice replaced by as many bytes is a run of stores
+pub part_stored : {A : Type 0} (l vs ys : List A) (at n : ℕ) → n ≡ length vs → ys ≡ vs → at + length vs ≤ length l → put_mid at n l ys ≡ sets l at vs
+part_stored l vs ys at n e f h = rw (e, f, drop-drop, sets-eq vs l at h) (simp append_assoc)
 
 -- what is written only where b holds
 pub length_chosen : {A : Type 0} (b : Bool) (s : List A) → length (cond b s []) ≡ cond b (length s) 0
@@ -111,33 +120,32 @@ pub length_two : (ws : List ℕ) → length (two_bytes ws) ≡ 2 * length ws
 length_two [] = refl
 length_two (w ∷ ws) = omega (arith, length_two ws)
 
--- ---- a loop that adds up the lengths of chunks
+-- the bytes of a number, low first
+pub two_le : {bs : List ℕ} (n : ℕ) → n < 65536 → bs ≡ n % 256 ∷ n / 256 % 256 ∷ [] → bs ≡ two_bytes (n ∷ [])
+two_le n h e = let high : n / 256 % 256 ≡ n / 256 = omega arith in e ∙ rw high
 
--- the first k of n chunks, each of at most m bytes, have s bytes together
-pub record Counted (f : ℕ → List ℕ) (n m k s : ℕ) : Type 0 where
-  pub count : k ≤ n
-  pub total : s ≡ length (chunks k f)
-  pub most : s ≤ k * m
+-- ---- the items of a list, of which those present are written
 
-pub counted_none : {f : ℕ → List ℕ} {n m : ℕ} → Counted f n m 0 0
-counted_none = record { count = zero-le; total = rw chunks-none; most = zero-le }
+-- in m bytes each
+module _ {A : Type 0} (m : ℕ) (present : A → Bool) (record_of : ℕ → A → List ℕ) (d : A) (xs : List A)
+    (long : (k : ℕ) (x : A) → length (record_of k x) ≡ m) where
+  abbrev written : ℕ → List ℕ
+  written k = cond (present (get_or xs k d)) (record_of k (get_or xs k d)) []
 
-module _ {f : ℕ → List ℕ} {n m k s : ℕ} (w : Counted f n m k s) where
-  pub counted_more : {x : ℕ} → k < n → x ≡ length (f k) → x ≤ m → Counted f n m (k + 1) (s + x)
-  counted_more h e l =
-      record {
-        count = omega arith;
-        total = omega (arith, w.total, length-chunks_more k f);
-        most = rw (add-one, suc-mul) (omega (arith, w.most));
-      }
+  one_more : (k : ℕ) → k < length xs → length (chunks k written) ≡ m * count_by present (take k xs)
+      → length (chunks (k + 1) written) ≡ m * count_by present (take (k + 1) xs)
+  one_more k h e =
+      let l = length-chunks_more k written in
+      by_cases (present (get_or xs k d))
+      (λ u. rw (l, u, long, e, count_by_more_yes present xs k d h u, add-one, mul-suc) (omega arith))
+      (λ u. rw (l, u, e, count_by_more_no present xs k d h u) (omega arith))
 
-  pub counted-all : n ≤ k → s ≡ length (chunks n f)
-  counted-all h = let e : k ≡ n = omega (arith, w.count) in rw e at w.total
+  first_ones : (k : ℕ) → k ≤ length xs → length (chunks k written) ≡ m * count_by present (take k xs)
+  first_ones zero h = rw (chunks-none, mul-zero)
+  first_ones (suc k) h = rw add-one at (one_more k (omega arith) (first_ones k (omega arith)))
 
-  pub counted_most : {b : ℕ} → n ≤ k → n * m ≡ b → s ≤ b
-  counted_most h p = let e : k ≡ n = omega (arith, w.count) in rw (← p, ← e) w.most
-
-pub ruleset counting = (counted_none, counted_more, counted-all, counted_most, length_chosen)
+  pub length-present : (n : ℕ) → length xs ≡ n → length (chunks n written) ≡ m * count_by present xs
+  length-present n h = first_ones n (omega arith) ∙ rw (take_all n xs (omega arith))
 
 -- ---- the field
 

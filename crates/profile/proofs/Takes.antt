@@ -17,18 +17,16 @@ use Rattle.profile.specs.Bytes.{number_at}
 use Rattle.profile.specs.Values.{refused, accepted, read_answer}
 use Rattle.profile.specs.Script.{known, allowed, fits, with_record, body_of, Stepped, stop, next, step, after_first, records}
 use Rattle.profile.specs.Upload.{Reached, reached}
-use Rattle.profile.specs.Reading.{found_front, verdict_of, reached_answer}
+use Rattle.profile.specs.Reading.{Sought, found_front, Gone, verdict_at, reached_answer}
 use Rattle.profile.specs.declared.Profile.{Profile}
-use Rattle.profile.specs.declared.ReadAnswer.{ReadAnswer}
+use Rattle.profile.specs.Values.{ReadAnswer}
 use Rattle.profile.specs.declared.Verdict.{Verdict}
-use Rattle.profile.specs.declared.records.Found.{Found}
-use Rattle.profile.specs.declared.records.RecordAnswer.{RecordAnswer}
 use Rattle.profile.proofs.Laws.{by_cases}
 
 -- ---- one record by its tests, as the step and the search for it make them
 
 -- a record that was found whole at the front of r
-pub record Whole (at : ℕ) (r : List ℕ) (f : Found) : Type 0 where
+pub record Whole (at : ℕ) (r : List ℕ) (f : Sought) : Type 0 where
   pub kind : f.kind ≡ number_at r 2
   pub start : f.start ≡ at + 4
   pub end : f.end ≡ at + (4 + number_at r 0)
@@ -44,7 +42,7 @@ pub record Unfound (r : List ℕ) (number : ℕ) : Type 0 where
   pub range : (2 ≤ number) × (number ≤ 4)
   pub cut : number ≡ 2 → (length r < 4) ⊎ ((length r < 4 + number_at r 0) × (allowed (number_at r 2) (number_at r 0) ≡ true))
 
-abbrev pub Known : ℕ → List ℕ → Found → Type 0
+abbrev pub Known : ℕ → List ℕ → Sought → Type 0
 Known at r f = (f.number ≡ 0 → Whole at r f) × ((f.number ≡ 0 → ⊥) → Unfound r f.number)
 
 pub known_found : (at : ℕ) (r : List ℕ) → Known at r (found_front at r)
@@ -205,7 +203,7 @@ reached_inside s skip p = shorter s (reached skip s p).rest (reached_ends s skip
 
 -- the answer of reading s from an offset on, by how far that went
 abbrev pub answered : ℕ → List ℕ → Reached → ReadAnswer
-answered at s r = read_answer (verdict_of r.number (at + length s - length r.rest)) r.profile
+answered at s r = read_answer (verdict_at r.number (at + length s - length r.rest)) r.profile
 
 abbrev Answers : List ℕ → Type 0
 Answers s = (skip at : ℕ) (p : Profile) → records skip at s p ≡ answered at s (reached skip s p)
@@ -219,7 +217,7 @@ records-reached (x ∷ xs) zero at p = go (records-reached xs) (step (x ∷ xs) 
     go ih (stop n) e =
         let k : at + length (x ∷ xs) - length (x ∷ xs) ≡ at = omega arith in
         let z = ne_eqb n 0 (omega (arith, (stop_range (x ∷ xs) p n e).0)) in
-        let v : verdict_of n at ≡ refused n at = rw z in
+        let v : verdict_at n at ≡ refused n at = rw z in
         rw (e, records, reached, k) (ap (λ (v : Verdict). read_answer v p) (sym v))
     go ih (next len q) e =
         let k : at + 1 + length xs ≡ at + length (x ∷ xs) = omega arith in
@@ -229,8 +227,8 @@ records-reached (x ∷ xs) (suc skip) at p =
     rw (← k) (records-reached xs skip (at + 1) p)
 
 -- by what code answers of how far it went
-pub records_read : (s : List ℕ) (p : Profile) (at place : ℕ) (t : RecordAnswer) → t ≡ reached_answer s (reached 0 s p) → place ≡ at + t.next
-    → read_answer (verdict_of t.number place) t.profile ≡ records 0 at s p
+pub records_read : (s : List ℕ) (p : Profile) (at place : ℕ) (t : Gone) → t ≡ reached_answer s (reached 0 s p) → place ≡ at + t.next
+    → read_answer (verdict_at t.number place) t.profile ≡ records 0 at s p
 records_read s p at place t e k =
     let r = reached 0 s p in
     let m : at + (length s - length r.rest) ≡ at + length s - length r.rest = omega (arith, reached_inside s 0 p) in

@@ -18,7 +18,7 @@ use Rattle.profile.specs.Script.{most_bytes, Stepped, stop, next, step, after_fi
 use Rattle.profile.specs.Upload.{held_bytes, larger, arrived, is_refused, Reached, reached, waiting, waits, stopped_at, read_on, counted, with_length, take_chunk, start_upload, records_with, read_with, upload_answer}
 use Rattle.profile.specs.Reading.{cut_front}
 use Rattle.profile.specs.declared.Profile.{Profile}
-use Rattle.profile.specs.declared.ReadAnswer.{ReadAnswer}
+use Rattle.profile.specs.Values.{ReadAnswer}
 use Rattle.profile.specs.declared.Ruleset.{Ruleset}
 use Rattle.profile.specs.declared.upload.Arrival.{Arrival}
 use Rattle.profile.specs.declared.upload.Upload.{Upload}

@@ -6,6 +6,7 @@ pub mod Layout
 pub mod Patterns
 pub mod Geometry
 pub mod Ranges
+pub mod Refusals
 pub mod Rules
 pub mod Obeys
 pub mod Script

@@ -1,6 +1,6 @@
 -- A pattern out of the half registers, which of its toggles are used by mode, their order, and the highest of them.
 -- Assumes nothing.
-use Rattle.std.specs.Prelude.{ℕ, zero, suc, ◌+◌, ◌-◌, ◌*◌, max, List, [], ◌∷◌, Bool, true, false, cond, not, ◌&&◌, ◌||◌, get_or, set, replicate, ltb, eqb}
+use Rattle.std.specs.Prelude.{ℕ, zero, suc, ◌+◌, ◌-◌, ◌*◌, max, List, [], ◌∷◌, Bool, true, false, cond, Option, None, Some, not, ◌&&◌, ◌||◌, get_or, set, replicate, ltb, eqb}
 use Rattle.profile.specs.Layout.{half_pattern, half_part}
 use Rattle.profile.specs.declared.layout.Part.{Part}
 use Rattle.profile.specs.declared.layout.Part.TheVariants.{Levels, Length, Toggle, Freeze, Resume}
@@ -85,6 +85,10 @@ in_order uses row j = follows uses (get_or row (j - 2) 0) (get_or row (j - 1) 0)
 -- "For each output, used toggles come first and rise strictly": 0, or the first used toggle out of order, 2 or 3
 unfoldable pub toggle_fault : (ℕ → Bool) → List ℕ → ℕ
 toggle_fault uses row = cond (in_order uses row 2) (cond (in_order uses row 3) 0 3) 2
+
+-- the toggle that a fault names, where there is one
+abbrev pub fault_named : ℕ → Option ℕ
+fault_named fault = cond (eqb fault 0) None (Some fault)
 
 -- a toggle that multiplier uses; an unused one counts as 0
 abbrev pub used_or0 : ℕ → ℕ

@@ -28,7 +28,7 @@ use Rattle.profile.specs.Script.{
 use Rattle.profile.specs.declared.Profile.{Profile}
 use Rattle.profile.specs.declared.Verdict.{Verdict}
 use Rattle.profile.specs.declared.Ruleset.{Ruleset}
-use Rattle.profile.specs.declared.ReadAnswer.{ReadAnswer}
+use Rattle.profile.specs.Values.{ReadAnswer}
 
 -- the kinds, and the body lengths of each; a field's by its form, whether it has a second gate line
 abbrev pub Known : ℕ → Type 0

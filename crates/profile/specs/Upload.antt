@@ -6,7 +6,7 @@ use Rattle.profile.specs.Bytes.{number_at}
 use Rattle.profile.specs.Values.{empty_profile, refused, read_answer}
 use Rattle.profile.specs.Script.{most_bytes, stop, next, step, after_first, records, judged}
 use Rattle.profile.specs.declared.Profile.{Profile}
-use Rattle.profile.specs.declared.ReadAnswer.{ReadAnswer}
+use Rattle.profile.specs.Values.{ReadAnswer}
 use Rattle.profile.specs.declared.Ruleset.{Ruleset}
 use Rattle.profile.specs.declared.upload.Arrival.{Arrival}
 use Rattle.profile.specs.declared.upload.Upload.{Upload}

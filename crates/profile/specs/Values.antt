@@ -12,7 +12,6 @@ use Rattle.profile.specs.declared.Shutter.{Shutter}
 use Rattle.profile.specs.declared.Tables.{Tables}
 use Rattle.profile.specs.declared.Profile.{Profile}
 use Rattle.profile.specs.declared.Verdict.{Verdict}
-use Rattle.profile.specs.declared.ReadAnswer.{ReadAnswer}
 
 -- "65,535 for none": of a second gate line and of a second pattern
 abbrev pub none : ℕ
@@ -115,6 +114,16 @@ pub record Names (v : Verdict) : Type 0 where
 abbrev pub accepts : Verdict → Bool
 accepts v = eqb v.number 0
 
+-- what a read answers
+pub record ReadAnswer : Type 0 where
+  pub verdict : Verdict
+  pub profile : Profile
+
 -- "A refused read gives the empty profile"
 abbrev pub read_answer : Verdict → Profile → ReadAnswer
 read_answer v p = record { verdict = v; profile = cond (accepts v) p empty_profile }
+
+-- what a write says: accepted, and how many bytes the script has; or why not, and 0
+pub record Written : Type 0 where
+  pub verdict : Verdict
+  pub length : ℕ

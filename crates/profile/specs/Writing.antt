@@ -3,7 +3,7 @@
 use Rattle.std.specs.Prelude.{ℕ, ◌+◌, ◌*◌, List, [], ◌∷◌, ◌++◌, cond, length, get_or, leb}
 use Rattle.profile.specs.Lists.{chunks, over}
 use Rattle.profile.specs.Bytes.{two_bytes, three_bytes, record_of}
-use Rattle.profile.specs.Values.{mode_number, accepted, refused, accepts, empty_sequence, empty_gate, empty_shutter}
+use Rattle.profile.specs.Values.{mode_number, accepted, refused, accepts, empty_sequence, empty_gate, empty_shutter, Written}
 use Rattle.profile.specs.Geometry.{region_count, region_at, gate_lines}
 use Rattle.profile.specs.Rules.{check_profile}
 use Rattle.profile.specs.declared.Sequence.{Sequence}
@@ -14,7 +14,6 @@ use Rattle.profile.specs.declared.Shutter.{Shutter}
 use Rattle.profile.specs.declared.Profile.{Profile}
 use Rattle.profile.specs.declared.Verdict.{Verdict}
 use Rattle.profile.specs.declared.Ruleset.{Ruleset}
-use Rattle.profile.specs.declared.Written.{Written}
 
 -- "its longest script becomes 1,314 bytes": every item present, two gate lines and seven regions
 abbrev pub longest_script : ℕ

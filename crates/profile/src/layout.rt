@@ -12,8 +12,9 @@ pub enum Part {
     Resume(u16),
 }
 
-// One entry a half register, by address, the low half first. Its four digits: the pattern; the part (1 start levels, 2 length, 3 toggle, 4 freeze,
-// 5 resume); a toggle's output, else 0; the number of the toggle or of the pair, else 0.
+// One entry a half register, by address, the low half first: a number, for the check of 240 structs runs out of memory. Its four digits: the
+// pattern; the part (1 start levels, 2 length, 3 toggle, 4 freeze, 5 resume); a toggle's output, else 0; the number of the toggle or of the pair,
+// else 0.
 const REGISTER_TABLE: [u16; 240] = [
     // Pattern 0.
     0x0100, 0x0200, 0x0311, 0x0312, 0x0313, 0x0321, 0x0322, 0x0323, 0x0331, 0x0332, 0x0333, 0x0341,
@@ -83,10 +84,7 @@ fn part_limit(part: Part) -> u16
 {
     match part {
         Part::Levels => 63,
-        Part::Length => 4095,
-        Part::Toggle(_, _) => 4095,
-        Part::Freeze(_) => 4095,
-        Part::Resume(_) => 4095,
+        Part::Length | Part::Toggle(_, _) | Part::Freeze(_) | Part::Resume(_) => 4095,
     }
 }
 

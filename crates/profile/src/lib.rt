@@ -8,6 +8,7 @@ mod limits;
 mod patterns;
 mod ranges;
 mod records;
+mod refusal;
 mod rules;
 pub mod upload;
 mod values;
@@ -21,27 +22,32 @@ pub use geometry::{
 };
 pub use patterns::{empty_pattern, pattern_of, rows_of};
 pub use records::{read, read_in, read_records};
+pub use refusal::{Refusal, accept, refuse};
 pub use rules::{check, check_in};
-pub use values::{accept, empty, mode_number, mode_of, refuse};
+pub use values::empty;
 pub use versions::{NEWEST, newest_rules, ruleset_of};
 pub use writing::{write, write_in};
 
+// Presence is a bool beside the numbers, and no Option, for a profile handed in may have any numbers in an absent item: `check` refuses it (5) where
+// they are not all zeros. So too 65,535 stands for none in a field's `gate2` and `second`, among numbers of which `check` refuses the others.
+
 // How the six V outputs run in a region.
-#[derive(Clone, Copy)]
+#[derive(Clone, Copy, PartialEq, Eq, Default)]
 pub enum Mode {
+    #[default]
     Plain,
     Sweep,
     Multiplier,
 }
 
-#[derive(Clone, Copy)]
+#[derive(Clone, Copy, PartialEq, Eq, Default)]
 pub struct Region {
     pub first: u16,
     pub sequence: u16,
     pub mode: Mode,
 }
 
-#[derive(Clone, Copy)]
+#[derive(Clone, Copy, PartialEq, Eq, Default)]
 pub struct Sequence {
     pub present: bool,
     pub pattern: u16,
@@ -66,7 +72,7 @@ pub struct Field {
     pub regions: [Region; 7],
 }
 
-#[derive(Clone, Copy)]
+#[derive(Clone, Copy, PartialEq, Eq, Default)]
 pub struct Gate {
     pub present: bool,
     pub on: u16,
@@ -75,7 +81,7 @@ pub struct Gate {
     pub toggle2: u16,
 }
 
-#[derive(Clone, Copy)]
+#[derive(Clone, Copy, PartialEq, Eq, Default)]
 pub struct Subck {
     pub present: bool,
     pub level: u16,
@@ -85,7 +91,7 @@ pub struct Subck {
     pub count: u16,
 }
 
-#[derive(Clone, Copy)]
+#[derive(Clone, Copy, PartialEq, Eq, Default)]
 pub struct Shutter {
     pub present: bool,
     pub active: u16,
@@ -123,29 +129,17 @@ pub struct Pattern {
     pub resume2: u16,
 }
 
-// What a profile is judged by, and its words' version.
+// What a profile is judged by, and its words' version: a number, for every number is one, 0 as 1 and a later one as the newest.
 #[derive(Clone, Copy)]
 pub struct Ruleset {
     pub version: u16,
 }
 
-// 0 or the number of a refusal, and its place; for 10 the output, 1 to 6, and its toggle that is out of order, else 0 and 0.
+// What the definitions, and the printed text, say by numbers: code gives a `Result`, and makes a verdict to print it. 0 or the number of a refusal, and its place; for 10 the output, 1 to 6, and its toggle that is out of order, else 0 and 0.
 #[derive(Clone, Copy)]
 pub struct Verdict {
     pub number: u16,
     pub place: u64,
     pub output: u16,
     pub toggle: u16,
-}
-
-#[derive(Clone, Copy)]
-pub struct ReadAnswer {
-    pub verdict: Verdict,
-    pub profile: Profile,
-}
-
-#[derive(Clone, Copy)]
-pub struct Written {
-    pub verdict: Verdict,
-    pub length: usize,
 }

@@ -1,17 +1,25 @@
 // What a record can carry: the ranges of an item that is given.
-ghost use Rattle.std.specs.Prelude.{◌≡◌};
+#![tactic(auto, unfolding(crate::specs::Lists::all))]
+
+ghost use Rattle.std.specs.Prelude.{◌≡◌, ◌&&◌, leb};
 ghost use Rattle.profile.specs.Lists.{all};
 ghost use Rattle.profile.specs.Ranges.{sequence_range, field_range, region_range, gate_range, subck_range, shutter_range};
 
 use crate::values::NONE;
 use crate::{Field, Gate, Region, Sequence, Shutter, Subck};
 
+// How many lines, or pixels of a line, there can be.
+fn is_extent(n: u16) -> bool
+    ensures { result ≡ (leb 1 n && leb n 4095) }
+{
+    (1..=4095).contains(&n)
+}
+
 pub(crate) fn sequence_in_range(s: Sequence) -> bool
     ensures { result ≡ all (sequence_range s) }
 {
     (s.pattern <= 9)
-        & (1 <= s.length)
-        & (s.length <= 4095)
+        & is_extent(s.length)
         & (s.start <= 4095)
         & (s.odd <= 4095)
         & (s.even <= 4095)
@@ -24,13 +32,10 @@ pub(crate) fn field_in_range(f: Field) -> bool
 {
     ((f.gate2 == NONE) | (f.gate2 <= 4094))
         & ((f.second == NONE) | (f.second <= 9))
-        & (1 <= f.lines)
-        & (f.lines <= 4095)
-        & (1 <= f.last)
-        & (f.last <= 4095)
+        & is_extent(f.lines)
+        & is_extent(f.last)
         & (f.gate <= 4094)
-        & (1 <= f.count)
-        & (f.count <= 7)
+        & (1..=7).contains(&f.count)
 }
 
 pub(crate) fn region_in_range(r: Region) -> bool

@@ -1,7 +1,9 @@
-// Reading a script record by record: refusals 2 to 5. Each record's body goes to the reader of its kind as a part of the script.
-ghost use Rattle.std.specs.Prelude.{◌≡◌, true, false, cond, ◌+◌, ◌*◌, ◌<◌, ◌≤◌, length, drop};
+// Reading a script: its length, 1; record by record, 2 to 5; then what is judged of the profile. Each record's body goes to the reader of its kind as a part of the script.
+ghost use Rattle.std.specs.Prelude.{◌≡◌, true, cond, ◌+◌, ◌*◌, ◌^◌, ◌<◌, ◌≤◌, length, drop};
 ghost use Rattle.profile.specs.Bytes.{number_at, data_at};
-ghost use Rattle.profile.specs.Values.{none, empty_profile, set_tables, read_answer};
+ghost use Rattle.profile.specs.Values.{none, empty_profile, refused, read_answer};
+ghost use Rattle.profile.specs.Refusals.{verdict_of, read_told};
+ghost use Rattle.profile.specs.Rules.{judge};
 ghost use Rattle.profile.specs.Versions.{newest_rules};
 ghost use Rattle.profile.specs.Script.{
   head_length,
@@ -12,13 +14,11 @@ ghost use Rattle.profile.specs.Script.{
   gate_from,
   subck_from,
   shutter_from,
-  known,
   field_length,
   allowed,
   fits,
   with_record,
   records,
-  judged,
   read_script,
 };
 ghost use Rattle.profile.specs.Upload.{reached};
@@ -29,14 +29,20 @@ ghost use Rattle.profile.specs.Reading.{
   gate_answer,
   subck_answer,
   shutter_answer,
-  body_answer,
   head_from,
   region_answer,
   regions_answer,
-  unfound,
+  when,
+  kind_number,
+  kind_of,
+  fault_number,
+  found_told,
   found_at,
+  taken_told,
   record_answer,
+  stop_told,
   reached_answer,
+  verdict_at,
 };
 
 use crate::layout::half_in;
@@ -45,15 +51,11 @@ use crate::limits::{
     subck_in_range,
 };
 use crate::rules::judge;
-use crate::values::{NONE, empty_region, mode_of};
+use crate::values::{NONE, empty_region};
 use crate::versions::newest_rules;
 use crate::{
-    Field, Gate, Profile, ReadAnswer, Region, Ruleset, Sequence, Shutter, Subck, Tables, Verdict,
-    accept, empty, refuse,
+    Field, Gate, Mode, Profile, Refusal, Region, Ruleset, Sequence, Shutter, Subck, empty,
 };
-
-// The kinds are 1 to 6.
-const KINDS: u16 = 6;
 
 // The bytes of a region.
 pub(crate) const REGION: usize = 6;
@@ -63,24 +65,12 @@ pub(crate) const MOST_BYTES: usize = 16384;
 
 // ---- numbers of a body, little-endian
 
-fn wide(x: u8) -> u16
-    ensures { (result ≡ x) × (result < 256) }
-{
-    x as u16
-}
-
-fn wider(x: u8) -> u32
-    ensures { (result ≡ x) × (result < 256) }
-{
-    x as u32
-}
-
 // The number of two bytes.
 pub(crate) fn number_at(body: &[u8], at: usize) -> u16
     requires { at + 1 < length body.now }
     ensures { result ≡ number_at body.now at }
 {
-    wide(body[at]) + 256 * wide(body[at + 1])
+    u16::from_le_bytes([body[at], body[at + 1]])
 }
 
 // The number of three bytes.
@@ -88,61 +78,34 @@ fn data_at(body: &[u8], at: usize) -> u32
     requires { at + 2 < length body.now }
     ensures { (result ≡ data_at body.now at) × (result < 16777216) }
 {
-    wider(body[at]) + 256 * wider(body[at + 1]) + 65536 * wider(body[at + 2])
+    u32::from_le_bytes([body[at], body[at + 1], body[at + 2], 0])
 }
 
-// ---- one reader a kind
-
-// Whether a body's values are in range, and the profile: with its item where they are, else as it was.
-#[derive(Clone, Copy)]
-pub struct BodyAnswer {
-    pub fits: bool,
-    pub profile: Profile,
-}
-
-// The answer of a body that is out of range.
-fn unfit(profile: Profile) -> BodyAnswer
-    ensures { result ≡ body_answer false profile profile }
-{
-    BodyAnswer {
-        fits: false,
-        profile: profile,
-    }
-}
-
-// The answer of a body whose item is in the tables now.
-fn with_tables(tables: Tables, profile: Profile) -> BodyAnswer
-    ensures { result ≡ body_answer true (set_tables tables profile) profile }
-{
-    let mut after = profile;
-    after.tables = tables;
-    BodyAnswer {
-        fits: true,
-        profile: after,
-    }
-}
+// ---- one reader a kind: the profile with the body's item, where its values are in range. A body is a part of the script, so its length is asked
+// by number, and not by an array's type.
+// Three of them test a number and store an item by it: one function would be handed the limit, the range test and the table, which are all there is.
 
 // Kind 1: the halves of the register at an address.
-fn read_register(body: &[u8], profile: Profile) -> BodyAnswer
+fn read_register(body: &[u8], profile: Profile) -> Option<Profile>
     requires { length body.now ≡ 4 }
     ensures { result ≡ register_answer body.now profile }
 {
-    let address = wide(body[0]);
+    let address = usize::from(body[0]);
     let data = data_at(body, 1);
     if 119 < address {
-        return unfit(profile);
+        return None;
     }
-    let i = 2 * (address as usize);
+    let i = 2 * address;
     let low = (data % 4096) as u16;
     let high = (data / 4096) as u16;
     let fits = half_in(i, low) & half_in(i + 1, high);
     if !fits {
-        return unfit(profile);
+        return None;
     }
-    let mut tables = profile.tables;
-    tables.registers[i] = low;
-    tables.registers[i + 1] = high;
-    with_tables(tables, profile)
+    let mut after = profile;
+    after.tables.registers[i] = low;
+    after.tables.registers[i + 1] = high;
+    Some(after)
 }
 
 fn sequence_from(body: &[u8]) -> Sequence
@@ -161,20 +124,19 @@ fn sequence_from(body: &[u8]) -> Sequence
 }
 
 // Kind 2: the sequence of a number.
-fn read_sequence(body: &[u8], profile: Profile) -> BodyAnswer
+fn read_sequence(body: &[u8], profile: Profile) -> Option<Profile>
     requires { length body.now ≡ 14 }
     ensures { result ≡ sequence_answer body.now profile }
 {
-    let number = number_at(body, 0);
+    let number = usize::from(number_at(body, 0));
     let sequence = sequence_from(body);
     let fits = (number <= 9) & sequence_in_range(sequence);
     if !fits {
-        return unfit(profile);
+        return None;
     }
-    let i = number as usize;
-    let mut tables = profile.tables;
-    tables.sequences[i] = sequence;
-    with_tables(tables, profile)
+    let mut after = profile;
+    after.tables.sequences[number] = sequence;
+    Some(after)
 }
 
 fn gate_from(body: &[u8]) -> Gate
@@ -191,20 +153,19 @@ fn gate_from(body: &[u8]) -> Gate
 }
 
 // Kind 4: the gate of a number.
-fn read_gate(body: &[u8], profile: Profile) -> BodyAnswer
+fn read_gate(body: &[u8], profile: Profile) -> Option<Profile>
     requires { length body.now ≡ 10 }
     ensures { result ≡ gate_answer body.now profile }
 {
-    let number = number_at(body, 0);
+    let number = usize::from(number_at(body, 0));
     let gate = gate_from(body);
     let fits = (number <= 4) & gate_in_range(gate);
     if !fits {
-        return unfit(profile);
+        return None;
     }
-    let i = number as usize;
-    let mut tables = profile.tables;
-    tables.gates[i] = gate;
-    with_tables(tables, profile)
+    let mut after = profile;
+    after.tables.gates[number] = gate;
+    Some(after)
 }
 
 fn subck_from(body: &[u8]) -> Subck
@@ -222,17 +183,17 @@ fn subck_from(body: &[u8]) -> Subck
 }
 
 // Kind 5: SUBCK.
-fn read_subck(body: &[u8], profile: Profile) -> BodyAnswer
+fn read_subck(body: &[u8], profile: Profile) -> Option<Profile>
     requires { length body.now ≡ 10 }
     ensures { result ≡ subck_answer body.now profile }
 {
     let subck = subck_from(body);
     if !subck_in_range(subck) {
-        return unfit(profile);
+        return None;
     }
-    let mut tables = profile.tables;
-    tables.subck = subck;
-    with_tables(tables, profile)
+    let mut after = profile;
+    after.tables.subck = subck;
+    Some(after)
 }
 
 fn shutter_from(body: &[u8]) -> Shutter
@@ -250,37 +211,22 @@ fn shutter_from(body: &[u8]) -> Shutter
 }
 
 // Kind 6: MSHUT or STROBE.
-fn read_shutter(body: &[u8], profile: Profile) -> BodyAnswer
+fn read_shutter(body: &[u8], profile: Profile) -> Option<Profile>
     requires { length body.now ≡ 12 }
     ensures { result ≡ shutter_answer body.now profile }
 {
-    let number = number_at(body, 0);
+    let number = usize::from(number_at(body, 0));
     let shutter = shutter_from(body);
     let fits = (number <= 1) & shutter_in_range(shutter);
     if !fits {
-        return unfit(profile);
+        return None;
     }
-    let i = number as usize;
-    let mut tables = profile.tables;
-    tables.shutters[i] = shutter;
-    with_tables(tables, profile)
+    let mut after = profile;
+    after.tables.shutters[number] = shutter;
+    Some(after)
 }
 
 // ---- a field's regions
-
-// A region that was read, and whether its numbers are in range.
-#[derive(Clone, Copy)]
-pub struct RegionAnswer {
-    pub fits: bool,
-    pub region: Region,
-}
-
-// The regions that were read and empty ones up to seven, and whether all that were read are in range.
-#[derive(Clone, Copy)]
-pub struct RegionsAnswer {
-    pub fits: bool,
-    pub regions: [Region; 7],
-}
 
 // The bytes of a field's body before its regions, by whether a second gate line is among them.
 pub(crate) fn head_length(two: bool) -> usize
@@ -301,46 +247,35 @@ fn has_form(two: bool, length: usize) -> bool
     (length <= head + REGION * 7) & ((length - head) % REGION == 0)
 }
 
-// Region i of a field's body, after a head of so many bytes, and whether its numbers are in range.
-fn region_from(body: &[u8], head: usize, i: usize) -> RegionAnswer
+// Region i of a field's body, after a head of so many bytes, where its numbers are in range.
+fn region_from(body: &[u8], head: usize, i: usize) -> Option<Region>
     requires { region_start head (i + 1) ≤ length body.now }
     ensures { result ≡ region_answer head body.now i }
 {
     let at = head + REGION * i;
-    let first = number_at(body, at);
-    let sequence = number_at(body, at + 2);
     let number = number_at(body, at + 4);
     let region = Region {
-        first: first,
-        sequence: sequence,
-        mode: mode_of(number),
+        first: number_at(body, at),
+        sequence: number_at(body, at + 2),
+        mode: Mode::from(number),
     };
-    RegionAnswer {
-        fits: (number <= 2) & region_in_range(region),
-        region: region,
+    let fits = (number <= 2) & region_in_range(region);
+    if !fits {
+        return None;
     }
+    Some(region)
 }
 
-// The first regions of a field's body.
-fn regions_from(body: &[u8], head: usize, count: usize) -> RegionsAnswer
+// The first regions of a field's body and empty ones up to seven, where all that are read are in range.
+fn regions_from(body: &[u8], head: usize, count: usize) -> Option<[Region; 7]>
     requires { (head + region_length * count ≤ length body.now) × (count ≤ 7) }
     ensures { result ≡ regions_answer head body.now count }
 {
-    let none = empty_region();
-    let mut regions = [none; 7];
-    let mut fits = true;
-    let mut i: usize = 0;
-    while i < count {
-        let given = region_from(body, head, i);
-        let region = given.region;
-        regions[i] = region;
-        fits = fits & given.fits;
-        i += 1;
+    let mut regions = [empty_region(); 7];
+    for i in 0..count {
+        regions[i] = region_from(body, head, i)?;
     }
-    RegionsAnswer {
-        fits: fits,
-        regions: regions,
-    }
+    Some(regions)
 }
 
 // The second gate line, where the form has one.
@@ -356,8 +291,6 @@ fn head_from(body: &[u8], two: bool) -> Field
     requires { head_length two ≤ length body.now }
     ensures { result ≡ head_from two body.now }
 {
-    let none = empty_region();
-    let regions = [none; 7];
     let head = head_length(two);
     Field {
         present: true,
@@ -367,76 +300,75 @@ fn head_from(body: &[u8], two: bool) -> Field
         gate2: gate2_from(body, two),
         second: number_at(body, head - 4),
         count: number_at(body, head - 2),
-        regions: regions,
+        regions: [empty_region(); 7],
     }
 }
 
 // Kind 3: the field, with as many regions as the body has room for.
-fn read_field(body: &[u8], profile: Profile) -> BodyAnswer
+fn read_field(body: &[u8], profile: Profile) -> Option<Profile>
     requires { head_length (has_form true (length body.now)) ≤ length body.now }
     ensures { result ≡ field_answer body.now profile }
 {
     let two = has_form(true, body.len());
     let size = head_length(two);
     let head = head_from(body, two);
-    let count = head.count as usize;
+    let count = usize::from(head.count);
     let fits = (size + REGION * count == body.len()) & field_in_range(head);
     if !fits {
-        return unfit(profile);
+        return None;
     }
-    let given = regions_from(body, size, count);
-    if !given.fits {
-        return unfit(profile);
-    }
-    let regions = given.regions;
-    let mut field = head;
-    field.regions = regions;
+    let regions = regions_from(body, size, count)?;
     let mut after = profile;
-    after.field = field;
-    BodyAnswer {
-        fits: true,
-        profile: after,
-    }
+    after.field = Field { regions, ..head };
+    Some(after)
 }
 
-// The reader of a kind, given a body of a length that the kind allows.
-fn read_body(kind: u16, body: &[u8], profile: Profile) -> BodyAnswer
-    requires { allowed kind (length body.now) ≡ true }
-    ensures { result ≡ body_answer (fits kind body.now) (with_record kind body.now profile) profile }
-{
-    match kind {
-        1 => read_register(body, profile),
-        2 => read_sequence(body, profile),
-        3 => read_field(body, profile),
-        4 => read_gate(body, profile),
-        5 => read_subck(body, profile),
-        _ => read_shutter(body, profile),
-    }
-}
+// ---- kinds and faults
 
-// ---- one record
-
-// The record at an offset: its kind, where its body starts and ends; or the number of its refusal before its values are read.
+// What a record carries.
 #[derive(Clone, Copy)]
-pub struct Found {
-    pub number: u16,
-    pub kind: u16,
-    pub start: usize,
-    pub end: usize,
+enum Kind {
+    Register,
+    Sequence,
+    Field,
+    Gate,
+    Subck,
+    Shutter,
 }
 
-// 0 or the number of the refusal, the next record's offset, and the profile with this record.
+// What can be wrong with a record: it is cut, its kind is unknown, its kind has no body of this length, or a value of its body is out of range.
 #[derive(Clone, Copy)]
-pub struct RecordAnswer {
-    pub number: u16,
-    pub next: usize,
-    pub profile: Profile,
+pub(crate) enum Fault {
+    Cut,
+    UnknownKind,
+    WrongLength,
+    OutOfRange,
 }
 
-fn is_known(kind: u16) -> bool
-    ensures { result ≡ known kind }
-{
-    (1 <= kind) & (kind <= KINDS)
+impl Fault {
+    // The number of its refusal.
+    pub(crate) fn number(self) -> u16
+        ensures { result ≡ fault_number self }
+    {
+        match self {
+            Fault::Cut => 2,
+            Fault::UnknownKind => 3,
+            Fault::WrongLength => 4,
+            Fault::OutOfRange => 5,
+        }
+    }
+
+    // The refusal of a record at an offset.
+    pub(crate) fn at(self, offset: usize) -> Refusal
+        ensures { verdict_of result ≡ refused (fault_number self) offset }
+    {
+        match self {
+            Fault::Cut => Refusal::Cut(offset),
+            Fault::UnknownKind => Refusal::UnknownKind(offset),
+            Fault::WrongLength => Refusal::WrongLength(offset),
+            Fault::OutOfRange => Refusal::OutOfRange(offset),
+        }
+    }
 }
 
 fn is_field_length(length: usize) -> bool
@@ -445,94 +377,111 @@ fn is_field_length(length: usize) -> bool
     has_form(false, length) | has_form(true, length)
 }
 
-// Whether a kind allows a body of this length.
-fn is_allowed(kind: u16, length: usize) -> bool
-    ensures { result ≡ allowed kind length }
-{
-    match kind {
-        1 => length == 4,
-        2 => length == 14,
-        3 => is_field_length(length),
-        4 => length == 10,
-        5 => length == 10,
-        _ => length == 12,
+impl Kind {
+    // Whether a body of this length is allowed.
+    #[tactic(auto, unfolding(crate::specs::Script::allowed))]
+    fn allows(self, length: usize) -> bool
+        ensures { result ≡ allowed (kind_number self) length }
+    {
+        match self {
+            Kind::Register => length == 4,
+            Kind::Sequence => length == 14,
+            Kind::Field => is_field_length(length),
+            Kind::Gate | Kind::Subck => length == 10,
+            Kind::Shutter => length == 12,
+        }
+    }
+
+    // The profile with the item of a body.
+    #[tactic(auto, unfolding(crate::specs::Script::allowed, crate::specs::Script::fits, crate::specs::Script::with_record), using(crate::proofs::Forms::form_long))]
+    fn read(self, body: &[u8], profile: Profile) -> Option<Profile>
+        requires { allowed (kind_number self) (length body.now) ≡ true }
+        ensures { result ≡ when (fits (kind_number self) body.now) (with_record (kind_number self) body.now profile) }
+    {
+        match self {
+            Kind::Register => read_register(body, profile),
+            Kind::Sequence => read_sequence(body, profile),
+            Kind::Field => read_field(body, profile),
+            Kind::Gate => read_gate(body, profile),
+            Kind::Subck => read_subck(body, profile),
+            Kind::Shutter => read_shutter(body, profile),
+        }
     }
 }
 
-fn refuse_record(number: u16) -> Found
-    ensures { result ≡ unfound number }
+// The kind of a number.
+fn kind_of(number: u16) -> Result<Kind, Fault>
+    ensures { result ≡ kind_of number }
 {
-    Found {
-        number: number,
-        kind: 0,
-        start: 0,
-        end: 0,
+    match number {
+        1 => Ok(Kind::Register),
+        2 => Ok(Kind::Sequence),
+        3 => Ok(Kind::Field),
+        4 => Ok(Kind::Gate),
+        5 => Ok(Kind::Subck),
+        6 => Ok(Kind::Shutter),
+        _ => Err(Fault::UnknownKind),
     }
+}
+
+// ---- one record
+
+// A whole record: its kind, where its body starts and ends.
+#[derive(Clone, Copy)]
+pub(crate) struct Found {
+    kind: Kind,
+    start: usize,
+    end: usize,
+}
+
+// What a record that was taken leaves: the next record's offset, and the profile with this one.
+#[derive(Clone, Copy)]
+pub(crate) struct Taken {
+    next: usize,
+    profile: Profile,
 }
 
 // The record at an offset, up to the values of its body.
-pub(crate) fn found_at(script: &[u8], at: usize) -> Found
-    ensures { result ≡ found_at script.now at }
+pub(crate) fn found_at(script: &[u8], at: usize) -> Result<Found, Fault>
+    ensures { found_told result ≡ found_at script.now at }
 {
-    let length = script.len();
-    if length < 4 {
-        return refuse_record(2);
+    let rest = script.len().saturating_sub(at);
+    if rest < 4 {
+        return Err(Fault::Cut);
     }
-    if length - 4 < at {
-        return refuse_record(2);
+    let size = usize::from(number_at(script, at));
+    let kind = kind_of(number_at(script, at + 2))?;
+    if !kind.allows(size) {
+        return Err(Fault::WrongLength);
     }
-    let size = number_at(script, at) as usize;
-    let kind = number_at(script, at + 2);
-    if !is_known(kind) {
-        return refuse_record(3);
+    if rest < 4 + size {
+        return Err(Fault::Cut);
     }
-    if !is_allowed(kind, size) {
-        return refuse_record(4);
-    }
-    if length - 4 - at < size {
-        return refuse_record(2);
-    }
-    Found {
-        number: 0,
-        kind: kind,
+    Ok(Found {
+        kind,
         start: at + 4,
         end: at + (4 + size),
-    }
+    })
 }
 
-// One record at an offset of the script, put into the profile. Past the end there is none: 2.
-pub(crate) fn record_at(script: &[u8], at: usize, profile: Profile) -> RecordAnswer
-    ensures { result ≡ record_answer script.now at profile }
+// One record at an offset of the script, put into the profile. Past the end there is none: it is cut.
+fn record_at(script: &[u8], at: usize, profile: Profile) -> Result<Taken, Fault>
+    ensures { taken_told at profile result ≡ record_answer script.now at profile }
 {
-    let found = found_at(script, at);
-    if found.number != 0 {
-        return RecordAnswer {
-            number: found.number,
-            next: at,
-            profile: profile,
-        };
-    }
-    let start = found.start;
-    let end = found.end;
-    let taken = read_body(found.kind, &script[start..end], profile);
-    if !taken.fits {
-        return RecordAnswer {
-            number: 5,
-            next: at,
-            profile: profile,
-        };
-    }
-    let after = taken.profile;
-    RecordAnswer {
-        number: 0,
-        next: end,
-        profile: after,
+    let found = found_at(script, at)?;
+    let body = &script[found.start..found.end];
+    match found.kind.read(body, profile) {
+        Some(after) => Ok(Taken {
+            next: found.end,
+            profile: after,
+        }),
+        None => Err(Fault::OutOfRange),
     }
 }
 
 // ---- the reader
 
-// The lent script and a place in it, as one thing.
+// The lent script and a place in it, as one thing: a form that is promised.
 #[derive(Clone, Copy)]
 struct Reader<'a> {
     script: &'a [u8],
@@ -546,96 +495,100 @@ fn open<'a>(script: &'a [u8], at: usize) -> Reader<'a>
 }
 
 // The record at the reader's place, put into the profile.
-fn record_here<'a>(reader: Reader<'a>, profile: Profile) -> RecordAnswer
-    ensures { result ≡ record_answer reader.entry.script.now reader.entry.at profile }
+fn record_here<'a>(reader: Reader<'a>, profile: Profile) -> Result<Taken, Fault>
+    ensures { taken_told reader.entry.at profile result ≡ record_answer reader.entry.script.now reader.entry.at profile }
 {
     record_at(reader.script, reader.at, profile)
 }
 
 // One record, by a reader at an offset of the script.
-fn record_by(script: &[u8], at: usize, profile: Profile) -> RecordAnswer
-    ensures { result ≡ record_answer script.now at profile }
+fn record_by(script: &[u8], at: usize, profile: Profile) -> Result<Taken, Fault>
+    ensures { taken_told at profile result ≡ record_answer script.now at profile }
 {
     record_here(open(script, at), profile)
 }
 
 // ---- all records
 
-// A verdict with its profile: the empty one with a refusal.
-pub(crate) fn make_answer(verdict: Verdict, profile: Profile) -> ReadAnswer
-    ensures { result ≡ read_answer verdict profile }
-{
-    if verdict.number != 0 {
-        let none = empty();
-        return ReadAnswer {
-            verdict: verdict,
-            profile: none,
-        };
-    }
-    ReadAnswer {
-        verdict: verdict,
-        profile: profile,
-    }
+// Where reading stopped: at the script's end, or at a record with a fault; and the profile of the records before it.
+#[derive(Clone, Copy)]
+pub(crate) struct Stop {
+    pub(crate) at: usize,
+    pub(crate) profile: Profile,
+    pub(crate) fault: Option<Fault>,
 }
 
-// The profile of a script's records, or the first refusal with its record's offset and the empty profile.
-pub fn read_records(script: &[u8]) -> ReadAnswer
-    ensures { result ≡ records 0 0 script.now empty_profile }
-{
-    let mut profile = empty();
-    let mut at: usize = 0;
-    while at < script.len() {
-        let answer = record_by(script, at, profile);
-        if answer.number != 0 {
-            return make_answer(refuse(answer.number, at as u64), profile);
+impl Stop {
+    // The profile, or the refusal of the record, where the slice that was read starts at an offset of the script.
+    pub(crate) fn outcome(self, start: usize) -> Result<Profile, Refusal>
+        requires { start + self.at < 2 ^ 64 }
+        ensures { read_told result ≡ read_answer (verdict_at (stop_told self).number (start + self.at)) self.profile }
+    {
+        match self.fault {
+            Some(fault) => Err(fault.at(start + self.at)),
+            None => Ok(self.profile),
         }
-        profile = answer.profile;
-        at = answer.next;
     }
-    make_answer(accept(), profile)
 }
 
-// The records from an offset on, up to the script's end or to one that is refused: 0 or its number, where it starts, the profile of those before it.
-pub(crate) fn records_from(script: &[u8], start: usize, profile: Profile) -> RecordAnswer
+// The records from an offset on, up to the script's end or to one with a fault.
+pub(crate) fn records_from(script: &[u8], start: usize, profile: Profile) -> Stop
     requires { start ≤ length script.now }
-    ensures { result ≡ reached_answer script.now (reached 0 (drop start script.now) profile) }
+    ensures { stop_told result ≡ reached_answer script.now (reached 0 (drop start script.now) profile) }
 {
-    let mut answer = RecordAnswer {
-        number: 0,
-        next: start,
-        profile: profile,
-    };
-    while (answer.number == 0) & (answer.next < script.len()) {
-        answer = record_by(script, answer.next, answer.profile);
+    let mut profile = profile;
+    let mut at = start;
+    // A while loop: it goes from record to record, and not by an index.
+    while at < script.len() {
+        match record_by(script, at, profile) {
+            Ok(taken) => {
+                profile = taken.profile;
+                at = taken.next;
+            }
+            Err(fault) => {
+                return Stop {
+                    at,
+                    profile,
+                    fault: Some(fault),
+                };
+            }
+        }
     }
-    answer
+    Stop {
+        at,
+        profile,
+        fault: None,
+    }
 }
 
-// What is judged of the profile (6 to 17), where the records were taken.
-pub(crate) fn judged_answer(rules: Ruleset, taken: ReadAnswer) -> ReadAnswer
-    ensures { result ≡ judged rules taken }
+// The profile of a script's records, or the refusal of the first that has a fault.
+pub fn read_records(script: &[u8]) -> Result<Profile, Refusal>
+    ensures { read_told result ≡ records 0 0 script.now empty_profile }
 {
-    let verdict = taken.verdict;
-    if verdict.number != 0 {
-        return taken;
-    }
-    let profile = taken.profile;
-    make_answer(judge(rules, profile), profile)
+    records_from(script, 0, empty()).outcome(0)
+}
+
+// What is judged of the profile that the records gave (6 to 17).
+pub(crate) fn judged(rules: Ruleset, profile: Profile) -> Result<Profile, Refusal>
+    ensures { read_told result ≡ read_answer (judge rules profile) profile }
+{
+    judge(rules, profile)?;
+    Ok(profile)
 }
 
 // Reads a script: its length (1), its records (2 to 5), then what is judged of the profile (6 to 17).
-pub fn read_in(rules: Ruleset, script: &[u8]) -> ReadAnswer
-    ensures { result ≡ read_script rules script.now }
+pub fn read_in(rules: Ruleset, script: &[u8]) -> Result<Profile, Refusal>
+    ensures { read_told result ≡ read_script rules script.now }
 {
     if MOST_BYTES < script.len() {
-        return make_answer(refuse(1, 0), empty());
+        return Err(Refusal::TooLong);
     }
-    judged_answer(rules, read_records(script))
+    judged(rules, read_records(script)?)
 }
 
 // The same by the newest rules.
-pub fn read(script: &[u8]) -> ReadAnswer
-    ensures { result ≡ read_script newest_rules script.now }
+pub fn read(script: &[u8]) -> Result<Profile, Refusal>
+    ensures { read_told result ≡ read_script newest_rules script.now }
 {
     read_in(newest_rules(), script)
 }

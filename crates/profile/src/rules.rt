@@ -1,8 +1,9 @@
-// The rules over a profile, in their order, and the verdict of the first that is broken.
+// The rules over a profile, in their order, and the refusal of the first that is broken.
 ghost use Rattle.std.specs.Prelude.{◌≡◌, [], ◌++◌, map, ◌&&◌, ◌+◌, ◌*◌, leb, eqb, get_or};
 ghost use Rattle.profile.specs.Lists.{all, chunks};
 ghost use Rattle.profile.specs.Patterns.{used};
 ghost use Rattle.profile.specs.Geometry.{region_count, gate_lines};
+ghost use Rattle.profile.specs.Refusals.{verdict_in};
 ghost use Rattle.profile.specs.Versions.{newest_rules};
 ghost use Rattle.profile.specs.Rules.{
   first_broken,
@@ -37,11 +38,10 @@ use crate::geometry::{
 };
 use crate::patterns::{highest_used, is_plain, pattern_of, rows_of, toggle_fault};
 use crate::ranges::in_range;
-use crate::values::{NONE, refuse_toggle};
+use crate::values::NONE;
 use crate::versions::newest_rules;
 use crate::{
-    Field, Gate, Mode, Pattern, Profile, Ruleset, Sequence, Shutter, Subck, Tables, Verdict,
-    accept, refuse,
+    Field, Gate, Mode, Pattern, Profile, Refusal, Ruleset, Sequence, Shutter, Subck, Tables,
 };
 
 // 7 at one region.
@@ -60,33 +60,27 @@ fn starts_right(field: Field, i: usize) -> bool
 }
 
 // 7 for all regions.
-fn order_verdict(field: Field) -> Verdict
-    ensures { result ≡ first_broken (chunks (region_count field) (order_entries field)) }
+fn check_order(field: Field) -> Result<(), Refusal>
+    ensures { verdict_in result ≡ first_broken (chunks (region_count field) (order_entries field)) }
 {
-    let n = region_count(field);
-    let mut i = 0;
-    while i < n {
+    for i in 0..region_count(field) {
         if !starts_right(field, i) {
-            return refuse(7, i as u64);
+            return Err(Refusal::RegionStart(i));
         }
-        i += 1;
     }
-    accept()
+    Ok(())
 }
 
 // 10 at region i: the first toggle out of order of the first of six outputs that has one.
-fn toggles_verdict(i: usize, mode: Mode, length: u16, rows: [[u16; 3]; 6]) -> Verdict
-    ensures { result ≡ first_broken (chunks 6 (λ k. row_entries i (used mode length) (get_or rows k []) k)) }
+fn check_toggles(i: usize, mode: Mode, length: u16, rows: [[u16; 3]; 6]) -> Result<(), Refusal>
+    ensures { verdict_in result ≡ first_broken (chunks 6 (λ k. row_entries i (used mode length) (get_or rows k []) k)) }
 {
-    let mut k = 0;
-    while k < 6 {
-        let fault = toggle_fault(mode, length, rows[k]);
-        if fault != 0 {
-            return refuse_toggle(i as u64, k as u16 + 1, fault);
+    for k in 0..6 {
+        if let Some(toggle) = toggle_fault(mode, length, rows[k]) {
+            return Err(Refusal::ToggleOrder(i, k as u16 + 1, toggle));
         }
-        k += 1;
     }
-    accept()
+    Ok(())
 }
 
 // 11, plain: the freeze and resume pairs that the mask turns on.
@@ -134,7 +128,7 @@ fn counts_right(mode: Mode, sequence: Sequence, pattern: Pattern) -> bool
 fn run_fits(start: u16, times: u16, length: u16, size: u64) -> bool
     ensures { result ≡ leb (start + times * length) size }
 {
-    (start as u64) + product(times, length) <= size
+    u64::from(start) + product(times, length) <= size
 }
 
 // 13.
@@ -149,72 +143,67 @@ fn ends_right(mode: Mode, sequence: Sequence, pattern: Pattern, size: u64) -> bo
 }
 
 // 11 to 13 of region i, with its mode, its sequence, that sequence's pattern and its size.
-fn run_verdict(i: usize, mode: Mode, sequence: Sequence, pattern: Pattern, size: u64) -> Verdict
-    ensures { result ≡ first_broken (run_entries i mode sequence pattern size) }
-{
-    if !mask_right(mode, sequence.mask, pattern) {
-        return refuse(11, i as u64);
-    }
-    if !counts_right(mode, sequence, pattern) {
-        return refuse(12, i as u64);
-    }
-    if !ends_right(mode, sequence, pattern, size) {
-        return refuse(13, i as u64);
-    }
-    accept()
-}
-
-// 8 to 13 of region i, with the same.
-fn sequence_verdict(
+fn check_run(
     i: usize,
     mode: Mode,
     sequence: Sequence,
     pattern: Pattern,
     size: u64,
-) -> Verdict
-    ensures { result ≡ first_broken (entries_at i mode sequence pattern size) }
+) -> Result<(), Refusal>
+    ensures { verdict_in result ≡ first_broken (run_entries i mode sequence pattern size) }
+{
+    if !mask_right(mode, sequence.mask, pattern) {
+        return Err(Refusal::Mask(i));
+    }
+    if !counts_right(mode, sequence, pattern) {
+        return Err(Refusal::Counts(i));
+    }
+    if !ends_right(mode, sequence, pattern, size) {
+        return Err(Refusal::RunEnd(i));
+    }
+    Ok(())
+}
+
+// 8 to 13 of region i, with the same.
+fn check_sequence(
+    i: usize,
+    mode: Mode,
+    sequence: Sequence,
+    pattern: Pattern,
+    size: u64,
+) -> Result<(), Refusal>
+    ensures { verdict_in result ≡ first_broken (entries_at i mode sequence pattern size) }
 {
     if !sequence.present {
-        return refuse(8, i as u64);
+        return Err(Refusal::NoSequence(i));
     }
     if pattern.length == 0 {
-        return refuse(9, i as u64);
+        return Err(Refusal::NoPattern(i));
     }
-    let t = pattern.toggles;
-    let toggles = toggles_verdict(i, mode, pattern.length, rows_of(t));
-    if toggles.number != 0 {
-        return toggles;
-    }
-    run_verdict(i, mode, sequence, pattern, size)
+    check_toggles(i, mode, pattern.length, rows_of(pattern.toggles))?;
+    check_run(i, mode, sequence, pattern, size)
 }
 
 // 8 to 13 at one region.
-fn region_verdict(tables: Tables, field: Field, i: usize) -> Verdict
-    ensures { result ≡ first_broken (region_entries tables field i) }
+fn check_region(tables: Tables, field: Field, i: usize) -> Result<(), Refusal>
+    ensures { verdict_in result ≡ first_broken (region_entries tables field i) }
 {
     let region = region_at(field, i);
     let mode = region.mode;
     let sequence = sequence_of(tables, region.sequence);
-    let registers = tables.registers;
-    let pattern = pattern_of(registers, sequence.pattern);
+    let pattern = pattern_of(tables.registers, sequence.pattern);
     let size = region_size(tables, field, i);
-    sequence_verdict(i, mode, sequence, pattern, size)
+    check_sequence(i, mode, sequence, pattern, size)
 }
 
 // 8 to 13, region by region.
-fn regions_verdict(tables: Tables, field: Field) -> Verdict
-    ensures { result ≡ first_broken (chunks (region_count field) (region_entries tables field)) }
+fn check_regions(tables: Tables, field: Field) -> Result<(), Refusal>
+    ensures { verdict_in result ≡ first_broken (chunks (region_count field) (region_entries tables field)) }
 {
-    let n = region_count(field);
-    let mut i = 0;
-    while i < n {
-        let verdict = region_verdict(tables, field, i);
-        if verdict.number != 0 {
-            return verdict;
-        }
-        i += 1;
+    for i in 0..region_count(field) {
+        check_region(tables, field, i)?;
     }
-    accept()
+    Ok(())
 }
 
 // 14: the first pattern has ended where the second begins.
@@ -222,7 +211,7 @@ fn first_ends(sequence: Sequence, line: u64, first: u16, second: u16) -> bool
     ensures { result ≡ first_ends sequence line first second }
 {
     let times = repetitions(sequence, line);
-    (times == 0) | run_fits(sequence.start, times, first, second as u64)
+    (times == 0) | run_fits(sequence.start, times, first, u64::from(second))
 }
 
 // 14: the second pattern on a gate line.
@@ -233,14 +222,17 @@ fn second_right(tables: Tables, field: Field, pattern: Pattern, line: u64) -> bo
     let region = region_at(field, i);
     let mode = region.mode;
     let sequence = sequence_of(tables, region.sequence);
-    let registers = tables.registers;
-    let first = pattern_of(registers, sequence.pattern);
-    let t = pattern.toggles;
+    let first = pattern_of(tables.registers, sequence.pattern);
     // asked only whether one is out of order: a second pattern has no region, and multiplier uses the same toggles
-    let toggles = toggles_verdict(0, Mode::Multiplier, pattern.length, rows_of(t));
+    let toggles = check_toggles(
+        0,
+        Mode::Multiplier,
+        pattern.length,
+        rows_of(pattern.toggles),
+    );
     is_plain(mode)
         & (pattern.length != 0)
-        & (toggles.number == 0)
+        & toggles.is_ok()
         & (pattern.length < line_length(tables, field, line))
         & first_ends(sequence, line, first.length, pattern.length)
 }
@@ -249,11 +241,11 @@ fn second_right(tables: Tables, field: Field, pattern: Pattern, line: u64) -> bo
 fn seconds_right(tables: Tables, field: Field, pattern: Pattern) -> bool
     ensures { result ≡ all (map (second_right tables field pattern) (gate_lines field)) }
 {
-    let first = second_right(tables, field, pattern, field.gate as u64);
+    let first = second_right(tables, field, pattern, u64::from(field.gate));
     if !has_second_line(field) {
         return first;
     }
-    first & second_right(tables, field, pattern, field.gate2 as u64)
+    first & second_right(tables, field, pattern, u64::from(field.gate2))
 }
 
 // 14: the gate lines lie in the field and differ.
@@ -268,21 +260,20 @@ fn lines_right(field: Field) -> bool
 }
 
 // 14.
-fn line_verdict(tables: Tables, field: Field) -> Verdict
-    ensures { result ≡ first_broken (line_entries tables field) }
+fn check_lines(tables: Tables, field: Field) -> Result<(), Refusal>
+    ensures { verdict_in result ≡ first_broken (line_entries tables field) }
 {
     if !lines_right(field) {
-        return refuse(14, 0);
+        return Err(Refusal::GateLine);
     }
     if field.second == NONE {
-        return accept();
+        return Ok(());
     }
-    let registers = tables.registers;
-    let pattern = pattern_of(registers, field.second);
+    let pattern = pattern_of(tables.registers, field.second);
     if !seconds_right(tables, field, pattern) {
-        return refuse(14, 0);
+        return Err(Refusal::GateLine);
     }
-    accept()
+    Ok(())
 }
 
 // 15 of one gate, on a gate line of the given length.
@@ -293,18 +284,16 @@ fn gate_right(gate: Gate, length: u16) -> bool
 }
 
 // 15, by gate.
-fn gates_verdict(tables: Tables, field: Field) -> Verdict
-    ensures { result ≡ first_broken (chunks 5 (gate_entries tables field)) }
+fn check_gates(tables: Tables, field: Field) -> Result<(), Refusal>
+    ensures { verdict_in result ≡ first_broken (chunks 5 (gate_entries tables field)) }
 {
     let length = gate_length(tables, field);
-    let mut k = 0;
-    while k < 5 {
+    for k in 0..5 {
         if !gate_right(tables.gates[k], length) {
-            return refuse(15, k as u64);
+            return Err(Refusal::GatePulse(k));
         }
-        k += 1;
     }
-    accept()
+    Ok(())
 }
 
 // 16.
@@ -314,17 +303,17 @@ fn subck_right(subck: Subck) -> bool
     !subck.present | ((subck.toggle1 < subck.toggle2) & (1 <= subck.suppressed))
 }
 
-fn subck_verdict(tables: Tables) -> Verdict
-    ensures { result ≡ first_broken (subck_entries tables) }
+fn check_subck(tables: Tables) -> Result<(), Refusal>
+    ensures { verdict_in result ≡ first_broken (subck_entries tables) }
 {
-    let subck = tables.subck;
-    if !subck_right(subck) {
-        return refuse(16, 0);
+    if !subck_right(tables.subck) {
+        return Err(Refusal::SubckPulse);
     }
-    accept()
+    Ok(())
 }
 
 // 17 of one shutter.
+// Which place comes first is said by hand, line and then pixel, as the definition says it.
 fn shutter_right(tables: Tables, field: Field, shutter: Shutter) -> bool
     ensures { result ≡ shutter_right tables field shutter }
 {
@@ -332,90 +321,73 @@ fn shutter_right(tables: Tables, field: Field, shutter: Shutter) -> bool
         | (has_pixel(
             tables,
             field,
-            shutter.on_line as u64,
-            shutter.on_pixel as u64,
+            u64::from(shutter.on_line),
+            u64::from(shutter.on_pixel),
         ) & has_pixel(
             tables,
             field,
-            shutter.off_line as u64,
-            shutter.off_pixel as u64,
+            u64::from(shutter.off_line),
+            u64::from(shutter.off_pixel),
         ) & ((shutter.on_line < shutter.off_line)
             | ((shutter.on_line == shutter.off_line) & (shutter.on_pixel < shutter.off_pixel))))
 }
 
 // 17, MSHUT first.
-fn shutters_verdict(tables: Tables, field: Field) -> Verdict
-    ensures { result ≡ first_broken (chunks 2 (shutter_entries tables field)) }
+fn check_shutters(tables: Tables, field: Field) -> Result<(), Refusal>
+    ensures { verdict_in result ≡ first_broken (chunks 2 (shutter_entries tables field)) }
 {
-    let mut k = 0;
-    while k < 2 {
+    for k in 0..2 {
         if !shutter_right(tables, field, tables.shutters[k]) {
-            return refuse(17, k as u64);
+            return Err(Refusal::ShutterSpan(k));
         }
-        k += 1;
     }
-    accept()
+    Ok(())
 }
 
 // 14 to 17.
-fn late_verdict(tables: Tables, field: Field) -> Verdict
-    ensures { result ≡ first_broken (line_entries tables field ++ (chunks 5 (gate_entries tables field) ++ (subck_entries tables ++ chunks 2 (shutter_entries tables field)))) }
+fn check_late(tables: Tables, field: Field) -> Result<(), Refusal>
+    ensures { verdict_in result ≡ first_broken (line_entries tables field ++ (chunks 5 (gate_entries tables field) ++ (subck_entries tables ++ chunks 2 (shutter_entries tables field)))) }
 {
-    let line = line_verdict(tables, field);
-    if line.number != 0 {
-        return line;
-    }
-    let gates = gates_verdict(tables, field);
-    if gates.number != 0 {
-        return gates;
-    }
-    let subck = subck_verdict(tables);
-    if subck.number != 0 {
-        return subck;
-    }
-    shutters_verdict(tables, field)
+    check_lines(tables, field)?;
+    check_gates(tables, field)?;
+    check_subck(tables)?;
+    check_shutters(tables, field)
 }
 
 // 7 to 17: the first broken rule of a field.
-pub(crate) fn rules_verdict(rules: Ruleset, tables: Tables, field: Field) -> Verdict
-    ensures { result ≡ first_broken (rules_of rules tables field) }
+pub(crate) fn check_rules(rules: Ruleset, tables: Tables, field: Field) -> Result<(), Refusal>
+    ensures { verdict_in result ≡ first_broken (rules_of rules tables field) }
 {
-    let order = order_verdict(field);
-    if order.number != 0 {
-        return order;
-    }
-    let regions = regions_verdict(tables, field);
-    if regions.number != 0 {
-        return regions;
-    }
-    late_verdict(tables, field)
+    check_order(field)?;
+    check_regions(tables, field)?;
+    check_late(tables, field)
 }
 
 // 6, then 7 to 17.
-pub(crate) fn judge(rules: Ruleset, profile: Profile) -> Verdict
-    ensures { result ≡ judge rules profile }
+pub(crate) fn judge(rules: Ruleset, profile: Profile) -> Result<(), Refusal>
+    ensures { verdict_in result ≡ judge rules profile }
 {
     let field = profile.field;
     if !field.present {
-        return refuse(6, 0);
+        return Err(Refusal::NoField);
     }
     let tables = profile.tables;
-    rules_verdict(rules, tables, field)
+    check_rules(rules, tables, field)
 }
 
 // Checks a profile handed in: its ranges (5), then 6 to 17.
-pub fn check_in(rules: Ruleset, profile: Profile) -> Verdict
-    ensures { result ≡ check_profile rules profile }
+pub fn check_in(rules: Ruleset, profile: Profile) -> Result<(), Refusal>
+    ensures { verdict_in result ≡ check_profile rules profile }
 {
     if !in_range(profile) {
-        return refuse(5, 0);
+        return Err(Refusal::OutOfRange(0));
     }
     judge(rules, profile)
 }
 
 // The same by the newest rules.
-pub fn check(profile: Profile) -> Verdict
-    ensures { result ≡ check_profile newest_rules profile }
+pub fn check(profile: Profile) -> Result<(), Refusal>
+    ensures { verdict_in result ≡ check_profile newest_rules profile }
 {
     check_in(newest_rules(), profile)
 }

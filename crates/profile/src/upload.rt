@@ -1,11 +1,10 @@
 // Reading a script that arrives in chunks of any length. The state goes in and comes back by value, and is of one size whatever has arrived:
 // it holds the bytes of the record that is not whole yet, and the profile of those before it. A chunk takes time by its own length.
-ghost use Rattle.std.specs.Prelude.{◌≡◌, true, ◌+◌, ◌≤◌, min, length, take as front, drop};
+ghost use Rattle.std.specs.Prelude.{◌≡◌, true, ◌+◌, ◌≤◌, length, take as front, drop};
 ghost use Rattle.profile.specs.Versions.{newest_rules};
+ghost use Rattle.profile.specs.Refusals.{read_told};
 ghost use Rattle.profile.specs.Upload.{
   held_bytes,
-  larger,
-  is_refused,
   refused_at,
   waits,
   stopped_at,
@@ -14,14 +13,16 @@ ghost use Rattle.profile.specs.Upload.{
   start_upload,
   upload_answer,
 };
-ghost use Rattle.profile.specs.Reading.{verdict_of, cut_front, filled as filledWith, filled_answer, filled_arrival};
+ghost use Rattle.profile.specs.Reading.{fault_number, fault_in, cut_front, filled as filledWith, filled_answer, filled_arrival, held_refusal};
 
-use crate::records::{MOST_BYTES, found_at, judged_answer, make_answer, number_at, records_from};
+use crate::records::{Fault, MOST_BYTES, found_at, judged, number_at, records_from};
 use crate::versions::newest_rules;
-use crate::{Profile, ReadAnswer, Ruleset, Verdict, accept, empty, refuse};
+use crate::{Profile, Refusal, Ruleset, empty};
 
 // What has arrived: how many bytes, as far as 16,385; the first refusal, 3, 4 or 5, and its place, else 0 and 0; how many bytes of the record that
 // is not whole yet are held, and these, in front of whatever stood there. 58 is the longest record.
+// The refusal stands by its numbers: the state is handed in, any numbers may stand in it, and `take_chunk` and `upload_answer` say what each gives.
+// `held` counts the bytes beside them: there is no heap, and a state is of one size.
 #[derive(Clone, Copy)]
 pub struct Arrival {
     pub length: usize,
@@ -39,6 +40,7 @@ pub struct Upload {
 }
 
 // A record with as many bytes of a chunk as it waits for: how many it has now, these, and whether it is still cut.
+// No Result: held and bytes are what a record so far is, whole or cut.
 #[derive(Clone, Copy)]
 pub struct Filled {
     pub held: usize,
@@ -47,102 +49,85 @@ pub struct Filled {
 }
 
 // Nothing has arrived.
+#[tactic(auto, unfolding(crate::specs::Upload::start_upload))]
 pub fn start() -> Upload
     ensures { result ≡ start_upload }
 {
-    let arrival = Arrival {
-        length: 0,
-        number: 0,
-        place: 0,
-        held: 0,
-        bytes: [0u8; 58],
-    };
-    let profile = empty();
     Upload {
-        arrival: arrival,
-        profile: profile,
+        arrival: Arrival {
+            length: 0,
+            number: 0,
+            place: 0,
+            held: 0,
+            bytes: [0u8; 58],
+        },
+        profile: empty(),
     }
 }
 
 // ---- what a state holds
 
-fn smaller(a: usize, b: usize) -> usize
-    ensures { result ≡ min a b }
-{
-    if a < b { a } else { b }
-}
+impl Arrival {
+    // How many bytes of a record are held.
+    fn held_of(self) -> usize
+        ensures { (result ≡ length (held_bytes self)) × (result ≤ 58) }
+    {
+        let size = number_at(&self.bytes, 0) as usize;
+        (4 + size).min(self.held).min(58)
+    }
 
-// How many bytes of a record are held.
-fn held_of(arrival: Arrival) -> usize
-    ensures { (result ≡ length (held_bytes arrival)) × (result ≤ 58) }
-{
-    let bytes = arrival.bytes;
-    let size = number_at(&bytes, 0) as usize;
-    smaller(4 + size, smaller(arrival.held, 58))
-}
-
-// How many bytes have arrived: at least those held.
-fn larger_of(a: usize, b: usize) -> usize
-    ensures { result ≡ larger a b }
-{
-    if a < b { b } else { a }
+    // The refusal that is held.
+    fn refusal(self) -> Option<Refusal>
+        ensures { result ≡ held_refusal self }
+    {
+        let at = self.place as usize;
+        match self.number {
+            3 => Some(Refusal::UnknownKind(at)),
+            4 => Some(Refusal::WrongLength(at)),
+            5 => Some(Refusal::OutOfRange(at)),
+            _ => None,
+        }
+    }
 }
 
 // The count with so many bytes more, as far as 16,385.
 fn count_on(total: usize, more: usize) -> usize
     ensures { result ≡ counted (total + more) }
 {
-    if MOST_BYTES < total {
-        return MOST_BYTES + 1;
-    }
-    if MOST_BYTES - total < more {
-        return MOST_BYTES + 1;
-    }
-    total + more
-}
-
-// Whether the number is a record's refusal.
-fn is_refused(number: u16) -> bool
-    ensures { result ≡ is_refused number }
-{
-    (3 <= number) & (number <= 5)
+    total.saturating_add(more).min(MOST_BYTES + 1)
 }
 
 // ---- a record that arrives in parts
 
 // Whether the first bytes say that their record is cut.
-fn is_cut(bytes: [u8; 58], held: usize) -> bool
-    requires { held ≤ 58 }
-    ensures { result ≡ cut_front (front held bytes) }
+fn is_cut(bytes: &[u8]) -> bool
+    ensures { result ≡ cut_front bytes.now }
 {
-    let found = found_at(&bytes[..held], 0);
-    found.number == 2
+    matches!(found_at(bytes, 0), Err(Fault::Cut))
 }
 
-// The record of the first bytes, with as many of the chunk's from an offset on as it waits for.
-fn fill(old: [u8; 58], count: usize, chunk: &[u8], from: usize) -> Filled
+// The record of the first bytes, with as many of those that follow as it waits for.
+fn fill(old: [u8; 58], count: usize, more: &[u8]) -> Filled
     requires { count ≤ 58 }
-    ensures { result ≡ filled_answer old (filledWith (front count old) (drop from chunk.now)) }
+    ensures { result ≡ filled_answer old (filledWith (front count old) more.now) }
 {
     let mut bytes = old;
     let mut held = count;
-    let mut i = from;
-    while i < chunk.len() {
-        if !is_cut(bytes, held) {
+    for &byte in more {
+        if !is_cut(&bytes[..held]) {
             return Filled {
-                held: held,
-                bytes: bytes,
+                held,
+                bytes,
                 cut: false,
             };
         }
-        bytes[held] = chunk[i];
+        bytes[held] = byte;
         held += 1;
-        i += 1;
     }
     Filled {
-        held: held,
-        bytes: bytes,
-        cut: is_cut(bytes, held),
+        held,
+        bytes,
+        cut: is_cut(&bytes[..held]),
     }
 }
 
@@ -158,107 +143,88 @@ fn waiting(total: usize, filled: Filled) -> Arrival
         number: 0,
         place: 0,
         held: filled.held,
-        bytes: bytes,
+        bytes,
     }
 }
 
 // What has arrived where a record was refused.
-fn refused(total: usize, number: u16, place: usize, bytes: [u8; 58]) -> Arrival
-    ensures { result ≡ refused_at total number place bytes }
+fn refused(total: usize, fault: Fault, place: usize, bytes: [u8; 58]) -> Arrival
+    ensures { result ≡ refused_at total (fault_number fault) place bytes }
 {
     Arrival {
         length: total,
-        number: number,
+        number: fault.number(),
         place: place as u64,
         held: 0,
-        bytes: bytes,
+        bytes,
     }
 }
 
 // What has arrived where reading stopped at an offset of the chunk: a record that is cut there waits, any other was refused.
-fn stopped(total: usize, bytes: [u8; 58], number: u16, chunk: &[u8], at: usize) -> Arrival
+fn stopped(total: usize, bytes: [u8; 58], fault: Option<Fault>, chunk: &[u8], at: usize) -> Arrival
     requires at_in_bounds { (at ≤ length chunk.now) × (length chunk.now ≤ total) }
-    requires chunk_value { waits number ≡ true → cut_front (drop at chunk.now) ≡ true }
-    ensures { result ≡ stopped_at total bytes number (drop at chunk.now) }
+    requires chunk_value { waits (fault_in fault) ≡ true → cut_front (drop at chunk.now) ≡ true }
+    ensures { result ≡ stopped_at total bytes (fault_in fault) (drop at chunk.now) }
 {
-    if (number == 0) | (number == 2) {
-        return waiting(total, fill(bytes, 0, chunk, at));
+    match fault {
+        None | Some(Fault::Cut) => waiting(total, fill(bytes, 0, &chunk[at..])),
+        Some(fault) => refused(total, fault, total - (chunk.len() - at), bytes),
     }
-    refused(total, number, total - (chunk.len() - at), bytes)
 }
 
 // The state with a chunk more. After a refusal, and past the limit, bytes are only counted.
 pub fn take(upload: Upload, chunk: &[u8]) -> Upload
     ensures { result ≡ take_chunk upload chunk.now }
 {
-    let mut after = upload;
     let arrival = upload.arrival;
     let bytes = arrival.bytes;
-    let held = held_of(arrival);
-    let before = larger_of(arrival.length, held);
+    let held = arrival.held_of();
+    let before = arrival.length.max(held);
     let total = count_on(before, chunk.len());
-    if (MOST_BYTES < total) | is_refused(arrival.number) {
-        let mut only = arrival;
-        only.length = total;
-        after.arrival = only;
+    let mut after = upload;
+    if (MOST_BYTES < total) | arrival.refusal().is_some() {
+        after.arrival.length = total;
         return after;
     }
-    let first = fill(bytes, held, chunk, 0);
+    let first = fill(bytes, held, chunk);
     if first.cut {
         after.arrival = waiting(total, first);
         return after;
     }
-    let end = first.held;
-    let whole = first.bytes;
-    let answer = records_from(&whole[..end], 0, upload.profile);
-    if answer.number != 0 {
-        after.arrival = refused(total, answer.number, before - held, bytes);
+    let record = records_from(&first.bytes[..first.held], 0, upload.profile);
+    if let Some(fault) = record.fault {
+        after.arrival = refused(total, fault, before - held, bytes);
         return after;
     }
-    let rest = records_from(chunk, end - held, answer.profile);
-    let arrived = stopped(total, bytes, rest.number, chunk, rest.next);
-    let taken = rest.profile;
+    let rest = records_from(chunk, first.held - held, record.profile);
     Upload {
-        arrival: arrived,
-        profile: taken,
+        arrival: stopped(total, bytes, rest.fault, chunk, rest.at),
+        profile: rest.profile,
     }
 }
 
 // ---- the answer
 
-// The verdict of a number and its place: 0 is no refusal.
-fn verdict_of(number: u16, place: u64) -> Verdict
-    ensures { result ≡ verdict_of number place }
-{
-    if number == 0 {
-        return accept();
-    }
-    refuse(number, place)
-}
-
 // What reading all that has arrived as one script gives.
-pub fn answer_in(rules: Ruleset, upload: Upload) -> ReadAnswer
-    ensures { result ≡ upload_answer rules upload }
+pub fn answer_in(rules: Ruleset, upload: Upload) -> Result<Profile, Refusal>
+    ensures { read_told result ≡ upload_answer rules upload }
 {
     let arrival = upload.arrival;
-    let bytes = arrival.bytes;
-    let held = held_of(arrival);
-    let total = larger_of(arrival.length, held);
+    let held = arrival.held_of();
+    let total = arrival.length.max(held);
     if MOST_BYTES < total {
-        return make_answer(refuse(1, 0), empty());
+        return Err(Refusal::TooLong);
     }
-    let profile = upload.profile;
-    if is_refused(arrival.number) {
-        return make_answer(refuse(arrival.number, arrival.place), profile);
+    if let Some(refusal) = arrival.refusal() {
+        return Err(refusal);
     }
-    let reached = records_from(&bytes[..held], 0, profile);
-    let verdict = verdict_of(reached.number, (total - held + reached.next) as u64);
-    judged_answer(rules, make_answer(verdict, reached.profile))
+    let stop = records_from(&arrival.bytes[..held], 0, upload.profile);
+    judged(rules, stop.outcome(total - held)?)
 }
 
 // The same by the newest rules.
-pub fn answer(upload: Upload) -> ReadAnswer
-    ensures { result ≡ upload_answer newest_rules upload }
+pub fn answer(upload: Upload) -> Result<Profile, Refusal>
+    ensures { read_told result ≡ upload_answer newest_rules upload }
 {
     answer_in(newest_rules(), upload)
 }

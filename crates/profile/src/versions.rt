@@ -10,7 +10,7 @@ pub const NEWEST: u16 = 2;
 pub fn ruleset_of(version: u16) -> Ruleset
     ensures { result ≡ ruleset_of version }
 {
-    Ruleset { version: version }
+    Ruleset { version }
 }
 
 pub fn newest_rules() -> Ruleset

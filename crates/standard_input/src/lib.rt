@@ -1,42 +1,23 @@
 // Standard input, read into a lent slice.
 #![tactic(auto)]
 
-ghost use Rattle.std.specs.Prelude.{length};
-ghost use Rattle.standard_input.specs.Input.{Inside};
+ghost use Rattle.std.specs.Prelude.{◌≤◌, length, IfOk};
 
-use std::io::{Input as Reading, Read};
+use std::io::{self, Input, Read};
 
-// What came: so many bytes, or a read that failed.
-#[derive(Clone, Copy)]
-pub enum Input {
-    Bytes(usize),
-    Failed,
-}
-
-// Reads once: no bytes at the end of the input. A read that fails is not an end.
-fn read_some(reader: &mut impl Read, room: &mut [u8]) -> Input
-    ensures { Inside result (length room.old) }
-{
-    match reader.read(room) {
-        Ok(n) => Input::Bytes(n),
-        Err(_) => Input::Failed,
-    }
-}
-
-// Reads until the input ends or the room is full.
-pub fn read_all(rt: &impl Reading, room: &mut [u8]) -> Input
-    ensures { Inside result (length room.old) }
+// Reads until the input ends or the room is full, and gives how many bytes came. A read that fails is not an end.
+pub fn read_all(rt: &impl Input, room: &mut [u8]) -> io::Result<usize>
+    ensures { IfOk result (λ n. n ≤ length room.old) }
 {
     let mut reader = rt.reader();
     let mut at: usize = 0;
+    // A while loop: each read brings as many bytes as it brings. `read_exact` would be an error at an input that ends before the room is full.
     while at < room.len() {
-        let Input::Bytes(n) = read_some(&mut reader, &mut room[at..]) else {
-            return Input::Failed;
-        };
+        let n = reader.read(&mut room[at..])?;
         if n == 0 {
-            return Input::Bytes(at);
+            return Ok(at);
         }
         at += n;
     }
-    Input::Bytes(at)
+    Ok(at)
 }

@@ -1,10 +1,7 @@
 -- Each line adds at most 1,098,958,053,375.
 -- Assumes nothing.
-use Prim.Native.Nat.{◌≤◌, ◌*◌, ◌-◌}
+use Prim.Native.Nat.{◌≤◌, ◌*◌}
 use Rattle.bench.proofs.total.Given as goal
 
 abbrev pub invariant-loop-i : goal.invariant-loop-i
-invariant-loop-i l = (l.i ≤ 4095) × (l.sum ≤ 1098958053375 * l.i)
-
-abbrev pub decreases-loop-i : goal.decreases-loop-i
-decreases-loop-i l = 4095 - l.i
+invariant-loop-i l = l.sum ≤ 1098958053375 * l.i

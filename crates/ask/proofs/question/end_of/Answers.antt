@@ -1,14 +1,13 @@
--- What the check leaves open, by the laws cited.
+-- The library's place of the first byte is that of the definition.
 -- Assumes nothing.
-use borrow.Author.Rules.{rules}
-use Rattle.ask.proofs.Asking.{seeking, sought-here, sought-all}
+use lib.Dec.{eqb}
+use Rattle.std.proofs.Common.{rules, tests}
+use Rattle.std.proofs.lemmas.Iterator.{YieldsList-from_slice}
+use Rattle.std.proofs.lemmas.Iterator.Search.{position_from_yields_List}
+use Rattle.ask.proofs.Asking.{end_found}
 use Rattle.ask.proofs.question.end_of.Goals as goal
 
-pub returns-then-bytes-i : goal.returns-then-bytes-i
-returns-then-bytes-i c = record { value = search sought-here; upper_bound = search rules }
-
-pub loop-i-preserved : goal.loop-i-preserved
-loop-i-preserved c = search seeking
-
-pub returns : goal.returns
-returns c = record { value = search sought-all; upper_bound = search rules }
+pub returns-clause-value : goal.returns-clause-value
+returns-clause-value c =
+    let found = position_from_yields_List (λ b. eqb b c.args.c) _ _ _ c.position.ensures.ran (YieldsList-from_slice c.args.bytes.now cc) (λ x b q k. search (rules, tests)) in
+    end_found _ _ _ found c.unwrap_or.ensures

@@ -1,10 +1,7 @@
 -- Each word adds at most 65,535.
 -- Assumes nothing.
-use Prim.Native.Nat.{◌≤◌, ◌*◌, ◌-◌}
+use Prim.Native.Nat.{◌≤◌, ◌*◌}
 use Rattle.bench.proofs.places.levels_sum.Given as goal
 
 abbrev pub invariant-loop-k : goal.invariant-loop-k
-invariant-loop-k l = (l.k ≤ 100000) × (l.sum ≤ 65535 * l.k)
-
-abbrev pub decreases-loop-k : goal.decreases-loop-k
-decreases-loop-k l = 100000 - l.k
+invariant-loop-k l = l.sum ≤ 65535 * l.k

@@ -1,10 +1,7 @@
 -- Each place adds at most 131,070.
 -- Assumes nothing.
-use Prim.Native.Nat.{◌≤◌, ◌*◌, ◌-◌}
+use Prim.Native.Nat.{◌≤◌, ◌*◌}
 use Rattle.bench.proofs.places.places_sum.Given as goal
 
 abbrev pub invariant-loop-k : goal.invariant-loop-k
-invariant-loop-k l = (l.k ≤ 100000) × (l.sum ≤ 131070 * l.k)
-
-abbrev pub decreases-loop-k : goal.decreases-loop-k
-decreases-loop-k l = 100000 - l.k
+invariant-loop-k l = l.sum ≤ 131070 * l.k

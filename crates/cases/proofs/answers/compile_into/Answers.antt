@@ -8,7 +8,7 @@ use Rattle.cases.proofs.Answered.{compile_filled}
 use Rattle.cases.proofs.answers.compile_into.Goals as goal
 
 pub returns : goal.returns
-returns c = let a = c.args in
+returns g c = let a = c.args in
     let h : length c.fill_fours.new.list ≡ length a.counts.now = omega arith in
     puts_as c.put_compiled.ensures
     (compile_filled a.payload.now a.counts.now a.words.now _ _ (length c.fill_fours.new.list) _ _ c.rules_at-rules.ensures c.raw_profile-profile.ensures

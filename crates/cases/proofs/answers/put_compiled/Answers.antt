@@ -1,11 +1,11 @@
--- The parts of what the compile answers are put one after the other, then the lists as it left them.
+-- The line, then the lists as they were left.
 -- Assumes nothing.
+use Rattle.std.proofs.Common.{rules}
 use Rattle.holdlist.proofs.Puts.{puts_as, puts_more}
-use Rattle.cases.specs.Kinds.{compile_text}
-use Rattle.cases.proofs.Answered.{compile_told}
+use Rattle.cases.proofs.Answered.{compile_line}
 use Rattle.cases.proofs.answers.put_compiled.Goals as goal
 
 pub returns : goal.returns
-unfolding compile_text
-returns c = puts_as (puts_more (puts_more (puts_more (puts_more (puts_more c.put_verdict-a.ensures c.put_after-b.ensures) c.put_after-c.ensures) c.put_byte-d.ensures) c.put_counts-e.ensures) c.put_words.ensures)
-    (compile_told c.compile_by-compiled.ensures)
+returns g c = let r = c.compile-compiled in
+    puts_as (puts_more (puts_more c.put_verdict_line-a.ensures c.put_counts-b.ensures) c.put_words.ensures)
+    (compile_line r.result c.verdict_in.ensures (search rules) r.ensures)

@@ -1,10 +1,11 @@
--- What the check leaves open, by the laws cited.
+-- Each number is read.
 -- Assumes nothing.
-use Rattle.level.proofs.Filling.{filling}
+use Prim.Native.Nat.{◌+◌, ◌*◌}
+use borrow.Author.Rules.{rules}
+use Rattle.profile.specs.Bytes.{number_at}
+use Rattle.cases.proofs.Listed.{listed}
 use Rattle.cases.proofs.raw.fill_numbers.Goals as goal
 
-pub loop-i-init : goal.loop-i-init
-loop-i-init c = search filling
-
-pub loop-i-preserved : goal.loop-i-preserved
-loop-i-preserved c = search filling
+pub returns : goal.returns
+returns c =
+    listed (λ k. number_at c.args.body.now (c.args.at + 2 * k)) c.fill.ensures.long (λ k h. let told = c.fill.ensures.filled k 0 h in search rules)

@@ -1,13 +1,16 @@
--- What the check leaves open, by the laws cited.
+-- Number after number, then the end of the line.
 -- Assumes nothing.
-use Rattle.cases.proofs.Putting.{putting}
+use mathlib.Core.Path.{refl}
+use mathlib.Core.Bool.{true}
+use lib.Dec.{eqb}
+use borrow.Author.Rules.{rules}
+use Rattle.holdlist.proofs.Puts.{puts_more}
+use Rattle.cases.specs.Answer.{number_text}
+use Rattle.cases.proofs.Putting.{puts_numbers}
 use Rattle.cases.proofs.text.put_counts.Goals as goal
 
-pub loop-i-init : goal.loop-i-init
-loop-i-init c = search putting
-
-pub loop-i-preserved : goal.loop-i-preserved
-loop-i-preserved c = search putting
-
 pub returns : goal.returns
-returns c = search putting
+returns c =
+    puts_more
+    (puts_numbers true c.args.counts.now (c.put_each-a.ensures (λ i n. number_text (eqb i 0) n) 0 _ refl (λ o p to i n x s. search rules)))
+    c.put_byte.ensures

@@ -1,10 +1,10 @@
--- What the check leaves open, by the laws cited.
+-- One gate after the other.
 -- Assumes nothing.
-use Rattle.cases.proofs.Putting.{putting}
+use borrow.Author.Rules.{rules}
+use Rattle.profile.specs.Values.{empty_gate}
+use Rattle.cases.specs.Answer.{afters, gate_numbers}
 use Rattle.cases.proofs.text.put_gates.Goals as goal
 
-pub loop-i-init : goal.loop-i-init
-loop-i-init c = search putting
-
-pub loop-i-preserved : goal.loop-i-preserved
-loop-i-preserved c = search putting
+pub returns : goal.returns
+returns c =
+    c.put_each.ensures (λ i x. afters (gate_numbers x)) empty_gate 5 (search rules) (λ o p to i n x s. search rules)

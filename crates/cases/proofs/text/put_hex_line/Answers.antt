@@ -1,13 +1,11 @@
--- What the check leaves open, by the laws cited.
+-- Byte after byte, then the end of the line.
 -- Assumes nothing.
-use Rattle.cases.proofs.Putting.{putting}
+use mathlib.Core.Path.{refl}
+use borrow.Author.Rules.{rules}
+use Rattle.holdlist.specs.Text.{hex2}
+use Rattle.holdlist.proofs.Puts.{puts_more}
 use Rattle.cases.proofs.text.put_hex_line.Goals as goal
 
-pub loop-i-init : goal.loop-i-init
-loop-i-init c = search putting
-
-pub loop-i-preserved : goal.loop-i-preserved
-loop-i-preserved c = search putting
-
 pub returns : goal.returns
-returns c = search putting
+returns c =
+    puts_more (c.put_each-a.ensures (λ i b. hex2 b) 0 _ refl (λ o p to i n x s. search rules)) c.put_byte.ensures

@@ -6,10 +6,10 @@ use native.Mathlib.Omega.{arith}
 use Rattle.holdlist.proofs.filling.fill_field.Goals as goal
 
 pub fill_regions-filled-requires : goal.fill_regions-filled-requires
-fill_regions-filled-requires c = record { fillable = c.requires; field_bound = omega (arith, few-pixels c.args.version _ _ c.requires) }
+fill_regions-filled-requires g c = record { fillable = c.requires; field_bound = omega (arith, few-pixels c.args.version _ _ c.requires) }
 
 pub overflow_add-result : goal.overflow_add-result
-overflow_add-result c = search (runs_few, few-pixels)
+overflow_add-result g c = search (runs_few, few-pixels)
 
 pub returns : goal.returns
-returns c = search writes_runs
+returns g c = search writes_runs

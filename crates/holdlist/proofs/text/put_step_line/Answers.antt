@@ -6,4 +6,4 @@ use Rattle.holdlist.proofs.text.put_step_line.Goals as goal
 
 pub returns : goal.returns
 unfolding step_line
-returns c = puts_more (puts_more (puts_more c.put_decimal-a.ensures c.put_byte-b.ensures) c.put_hex4-c.ensures) c.put_byte.ensures
+returns c = puts_more (puts_more (puts_more (rw c.from.ensures at c.put_decimal-a.ensures) c.put_byte-b.ensures) c.put_hex4-c.ensures) c.put_byte.ensures

@@ -11,5 +11,5 @@ returns-then-verdict-ne10 c = rw (ne_eqb _ 10 c.if-verdict-ne10.true) (puts_none
 
 pub returns : goal.returns
 unfolding toggle_text
-returns c = rw (eq-eqb _ 10 c.if-verdict-ne10.false)
+returns c = rw (eq-eqb _ 10 c.if-verdict-ne10.false, ← c.from.ensures, ← c.from-2.ensures)
     (puts_more (puts_more (puts_more c.put_byte-a.ensures c.put_decimal-b.ensures) c.put_byte-c.ensures) c.put_decimal.ensures)

@@ -3,6 +3,7 @@
 use mathlib.Core.Path.{◌∙◌, ap}
 use mathlib.Core.Bool.{Bool, ◌&&◌}
 use lib.ListN.{get_or}
+use Rattle.std.specs.Bool.{then_some}
 use Rattle.profile.specs.Values.{empty_shutter}
 use Rattle.profile.specs.Rules.{has_second}
 use Rattle.level.specs.Line.{gates_here, shutter_here, origin_of}
@@ -25,8 +26,7 @@ returns c = let x = c.args in
       repetitions = c.repetitions.ensures i;
       mask1 = c.mask_of.ensures i;
       mask2 = c.mask_of-2.ensures i;
-      second_acts = (c.doubles.ensures ∙ ap (λ (c : Bool). has_second s.field && c) here) i;
-      second = s.second;
+      second = (c.second_here.ensures ∙ ap (λ (c : Bool). then_some (has_second s.field && c) s.second) here) i;
       gates = (c.gates_here.ensures ∙ ap (gates_here s.gates) here) i;
       subck = c.subck_here.ensures i;
       mshut = (c.shutter_here.ensures ∙ ap (shutter_here (get_or s.shutters 0 empty_shutter) x.line) long) i;

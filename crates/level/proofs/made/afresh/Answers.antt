@@ -12,4 +12,4 @@ pub returns : goal.returns
 returns c = let a = c.args in
     let p = a.a in
     let small : Small p.toggles = λ i. let h : Fits w16 (get_or p.toggles i 0) = search rules in h.fits in
-    afresh_makes p small a.start a.r a.origin c.six-levels.result c.run_keys-keys.result c.run_keys-keys.ensures c.six-levels.ensures.value c.six-levels.ensures.upper_bound
+    afresh_makes p small a.start a.r a.origin c.six-levels.result c.run_keys-keys.result c.run_keys-keys.ensures c.six-levels.ensures.value

@@ -16,5 +16,4 @@ returns c = let a = c.args in
     let p = a.a in
     let small : Small p.toggles = λ i. let h : Fits w16 (get_or p.toggles i 0) = search rules in h.fits in
     carried_makes p small a.start a.r a.origin c.six-levels.result c.six-turned.result c.run_keys-keys.result c.run_keys-keys.ensures
-    c.six-levels.ensures.value c.six-levels.ensures.upper_bound (c.six-turned.ensures.value ∙ ap (λ n. six_at p.levels (rows_of c.run_keys-keys.result) n) c.wide.ensures)
-    c.six-turned.ensures.upper_bound
+    c.six-levels.ensures.value (c.six-turned.ensures.value ∙ ap (λ n. six_at p.levels (rows_of c.run_keys-keys.result) n) c.from.ensures)

@@ -5,7 +5,7 @@ use mathlib.Core.Bool.{false, ◌||◌}
 use Rattle.level.specs.Next.{any_of}
 use Rattle.level.specs.Edges.{others_edge}
 use Rattle.level.specs.Word.{gate_word}
-use Rattle.level.specs.Ready.{eight_at}
+use Rattle.level.specs.Eight.{eight_at}
 use Rattle.level.specs.Made.{others_word}
 use Rattle.level.proofs.made.edges_of.Goals as goal
 

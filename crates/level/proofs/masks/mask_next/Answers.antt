@@ -1,22 +1,21 @@
--- Freeze and resume one after the other, where the mask is on.
+-- Freeze and resume one after the other, where there is a mask.
 -- Assumes nothing.
 use mathlib.Core.Path.{◌∙◌, ap, sym}
 use lib.Dec.{eqb}
 use Rattle.level.specs.Next.{next}
-use mathlib.Core.Bool.{◌&&◌, ◌||◌}
-use Rattle.level.proofs.Nexts.{and_none, next_low, next_two, next-none}
+use Rattle.level.specs.Edges.{mask_edge}
+use Rattle.level.proofs.Nexts.{next_low, next_two, next-none}
 use Rattle.level.proofs.masks.mask_next.Goals as goal
 
-pub until-requires-then-m : goal.until-requires-then-m
-until-requires-then-m c = let a = c.args in rw c.until.ensures (next_low (λ q. eqb q a.m.freeze) a.p a.end c.requires)
+pub until-requires-in-Some : goal.until-requires-in-Some
+until-requires-in-Some c = let a = c.args in rw c.until.ensures (next_low (λ q. eqb q c.in-Some.m.freeze) a.p a.end c.requires)
 
-pub returns-then-m : goal.returns-then-m
-returns-then-m c = let a = c.args in
-    let on = c.if-m.true in
-    c.until-then-m.ensures ∙ ap (λ b. next (λ q. eqb q a.m.resume) a.p b) c.until.ensures
-    ∙ next_two (λ q. eqb q a.m.freeze) (λ q. eqb q a.m.resume) a.p a.end c.requires
-    ∙ (λ i. next (λ q. sym on i && (eqb q a.m.freeze || eqb q a.m.resume)) a.p a.end)
+pub returns-in-Some : goal.returns-in-Some
+returns-in-Some c = let a = c.args in
+    let m = c.in-Some.m in
+    c.until-in-Some.ensures ∙ ap (λ b. next (λ q. eqb q m.resume) a.p b) c.until.ensures
+    ∙ next_two (λ q. eqb q m.freeze) (λ q. eqb q m.resume) a.p a.end c.requires
+    ∙ ap (λ o. next (λ q. mask_edge o q) a.p a.end) (sym c.in-Some.is)
 
-pub returns : goal.returns
-returns c = let m = c.args.m in
-    next-none c.requires (λ q a b. and_none (eqb q m.freeze || eqb q m.resume) c.if-m.false)
+pub returns-in-None : goal.returns-in-None
+returns-in-None c = next-none c.requires (λ q a b. ap (λ o. mask_edge o q) c.in-None.is)

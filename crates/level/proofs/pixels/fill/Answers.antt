@@ -11,7 +11,7 @@ use Rattle.level.proofs.Edges.{word_joined}
 use Rattle.level.proofs.pixels.fill.Goals as goal
 
 pub loop-p-init : goal.loop-p-init
-loop-p-init c = (filled_none, omega arith, omega (arith, c.least-n.ensures))
+loop-p-init c = (filled_none, omega arith, omega (arith, c.min-n.ensures))
 
 pub loop-p-preserved : goal.loop-p-preserved
 loop-p-preserved c = let w = word_joined c.prepare-ready.result c.loop-p.p c.six_at.ensures.value c.eight_at.ensures.value c.join.ensures in
@@ -20,6 +20,6 @@ loop-p-preserved c = let w = word_joined c.prepare-ready.result c.loop-p.p c.six
 pub returns : goal.returns
 returns c = let l = c.loop-p in
     let line = c.args.line in
-    let e : l.p ≡ min line.length (length c.args.out.now) = omega (arith, l.invariant.1, c.least-n.ensures) in
+    let e : l.p ≡ min line.length (length c.args.out.now) = omega (arith, l.invariant.1, c.min-n.ensures) in
     filled-over l.invariant.0 (line_words line _) (line_words-length line _ ∙ sym e)
     (λ k h. c.prepare-ready.ensures.words k (omega arith) ∙ sym (line_words-at line _ k (omega arith)))

@@ -4,5 +4,5 @@ use Rattle.level.proofs.Divided.{line_divided}
 use Rattle.level.proofs.place.place_in.Goals as goal
 
 pub returns : goal.returns
-returns c = rw (c.accept.ensures, c.line_by_division-line.ensures.value, c.sequence_of-sequence.ensures, c.region_at-region.ensures)
+returns c = rw (c.line_by_division-line.ensures.value, c.sequence_of-sequence.ensures, c.region_at-region.ensures)
     (line_divided c.args.tables c.args.field c.requires.ordered c.args.i c.args.n c.requires.i_bound c.requires.n_bound)

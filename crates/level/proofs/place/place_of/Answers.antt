@@ -6,7 +6,7 @@ use Rattle.profile.specs.Lists.{sum}
 use Rattle.profile.specs.Geometry.{region_count, region_size, regions_pixels}
 use Rattle.profile.proofs.Laws.{sum-none, sum-next}
 use Rattle.profile.proofs.Lines.{regions-start, regions-pixels}
-use Rattle.level.specs.Place.{no_place, place_answer}
+use Rattle.level.specs.Place.{place_answer}
 use Rattle.level.proofs.Places.{placed_nowhere}
 use native.Mathlib.Omega.{arith}
 use Rattle.level.proofs.place.place_of.Goals as goal
@@ -27,6 +27,5 @@ pub returns : goal.returns
 unfolding regions_pixels
 returns c = let end : c.loop-i.i ≡ region_count c.args.field = omega arith in
     let all = regions-pixels c.args.field c.requires c.args.tables in
-    ap no_place c.refuse.ensures
-    ∙ placed_nowhere c.args.tables c.args.field c.args.n
+    placed_nowhere c.args.tables c.args.field c.args.n
     (omega (arith, ap (λ (i : ℕ). sum (region_size c.args.tables c.args.field) 0 i) end, all))

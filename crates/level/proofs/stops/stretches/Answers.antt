@@ -12,11 +12,7 @@ loop-p-init c = stretching_none _ _ _
 
 pub returns-then-ends-n : goal.returns-then-ends-n
 returns-then-ends-n c = let l = c.loop-p in
-    record { value = omega (arith, l.invariant.few, l.invariant.ends.within, l.invariant.words.within, l.invariant.ends.long); ends_after = stretched_ends l.invariant; words_after = stretched_words l.invariant }
-
-pub returns-then-words-n : goal.returns-then-words-n
-returns-then-words-n c = let l = c.loop-p in
-    record { value = omega (arith, l.invariant.few, l.invariant.ends.within, l.invariant.words.within, l.invariant.words.long); ends_after = stretched_ends l.invariant; words_after = stretched_words l.invariant }
+    record { value = omega (arith, l.invariant.few, l.invariant.ends.within, l.invariant.words.within, l.invariant.ends.long, l.invariant.words.long); ends_after = stretched_ends l.invariant; words_after = stretched_words l.invariant }
 
 pub loop-p-smaller : goal.loop-p-smaller
 loop-p-smaller c =

@@ -1,25 +1,26 @@
--- Each return is the answer of the definition where the tests before it passed and its own failed.
+-- The tests stand in the order of the definition, so each return is its answer.
 -- Assumes nothing.
-use Rattle.profile.proofs.OneRecord.{body-found, finding}
-use Rattle.profile.proofs.Laws.{tested_yes}
-use native.Mathlib.Omega.{arith}
+use mathlib.Core.Path.{sym, ◌∙◌}
+use Rattle.std.proofs.lemmas.Result.{err_from_is_err_and}
+use Rattle.profile.proofs.OneRecord.{no_header, kind_unknown, length_wrong, body_cut, body-found}
 use Rattle.profile.proofs.records.found_at.Goals as goal
 
-pub returns-then-length-lt4 : goal.returns-then-length-lt4
-returns-then-length-lt4 c = search finding
+pub returns-then-rest-lt4 : goal.returns-then-rest-lt4
+returns-then-rest-lt4 c = search no_header
 
-pub returns-then-length-at : goal.returns-then-length-at
-returns-then-length-at c = search finding
+pub returns-in_err-kind : goal.returns-in_err-kind
+returns-in_err-kind c = let p = err_from_is_err_and c.from_residual.result c.from_residual.ensures.1 in
+    rw (p.1, p.2)
+    (kind_unknown _ _ c.saturating_sub-rest.ensures c.if-rest-lt4.false (c.from-size.ensures ∙ c.number_at.ensures) c.number_at-2.ensures c.in_err-kind.ensures)
 
-pub returns-then-not-is_known : goal.returns-then-not-is_known
-returns-then-not-is_known c = search finding
+pub returns-then-not-allows : goal.returns-then-not-allows
+returns-then-not-allows c = length_wrong _ _ c.saturating_sub-rest.ensures c.if-rest-lt4.false (c.from-size.ensures ∙ c.number_at.ensures) c.number_at-2.ensures c.in_ok-kind.ensures
+    (sym c.if-not-allows.ensures)
 
-pub returns-then-not-is_allowed : goal.returns-then-not-is_allowed
-returns-then-not-is_allowed c = search finding
-
-pub returns-then-length-at-2 : goal.returns-then-length-at-2
-returns-then-length-at-2 c = search finding
+pub returns-then-rest-size : goal.returns-then-rest-size
+returns-then-rest-size c = body_cut _ _ c.saturating_sub-rest.ensures c.if-rest-lt4.false (c.from-size.ensures ∙ c.number_at.ensures) c.number_at-2.ensures c.in_ok-kind.ensures
+    (sym c.if-not-allows.ensures) c.if-rest-size.true
 
 pub returns : goal.returns
-returns c = body-found _ _ (omega arith) (omega arith) _ _ c.number_at-size.ensures c.number_at-kind.ensures
-    (tested_yes c.is_known.ensures c.if-not-is_known.false-raw) (tested_yes c.is_allowed.ensures c.if-not-is_allowed.false-raw) (omega arith)
+returns c = body-found _ _ c.saturating_sub-rest.ensures c.if-rest-lt4.false (c.from-size.ensures ∙ c.number_at.ensures) c.number_at-2.ensures c.in_ok-kind.ensures
+    (sym c.if-not-allows.ensures) c.if-rest-size.false

@@ -1,12 +1,16 @@
--- The loop's invariant is the record Going; the measure is how much is left of the script, and one while no record was refused.
+-- The loop's invariant: the place is in the script, and what is left from it on is read as the whole is. The measure is how much is left.
 -- Assumes nothing.
-use lib.ListN.{drop}
+use mathlib.Core.Path.{◌≡◌}
+use Prim.Native.Nat.{◌-◌, ◌≤◌}
+use lib.ListN.{length, drop}
 use Rattle.profile.specs.Upload.{reached}
-use Rattle.profile.proofs.OneRecord.{Going, left}
 use Rattle.profile.proofs.records.records_from.Given as goal
 
-abbrev pub invariant-loop-answer : goal.invariant-loop-answer
-invariant-loop-answer l = Going l.script (reached 0 (drop l.start l.script) l.initial.answer.profile) l.answer
+abbrev pub invariant-loop-at : goal.invariant-loop-at
+invariant-loop-at l = record {
+  within : l.at ≤ length l.script;
+  on : reached 0 (drop l.at l.script) l.profile ≡ reached 0 (drop l.initial.at l.script) l.initial.profile;
+}
 
-abbrev pub decreases-loop-answer : goal.decreases-loop-answer
-decreases-loop-answer l = left l.script l.answer
+abbrev pub decreases-loop-at : goal.decreases-loop-at
+decreases-loop-at l = length l.script - l.at

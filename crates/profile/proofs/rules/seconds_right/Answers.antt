@@ -6,10 +6,10 @@ use Rattle.profile.proofs.rules.seconds_right.Goals as goal
 
 pub returns-then-not-has_second_line : goal.returns-then-not-has_second_line
 returns-then-not-has_second_line c = let a = c.args in
-    line-one a.field c.has_second_line.ensures (second_right a.tables a.field a.pattern) c.second_right-first.ensures
+    line-one a.field c.has_second_line.ensures (second_right a.tables a.field a.pattern) (rw c.from.ensures at c.second_right-first.ensures)
     c.if-not-has_second_line.true-raw
 
 pub returns : goal.returns
 returns c = let a = c.args in
-    line-both a.field c.has_second_line.ensures (second_right a.tables a.field a.pattern) c.second_right-first.ensures
-    c.if-not-has_second_line.false-raw c.second_right.ensures
+    line-both a.field c.has_second_line.ensures (second_right a.tables a.field a.pattern) (rw c.from.ensures at c.second_right-first.ensures)
+    c.if-not-has_second_line.false-raw (rw c.from-2.ensures at c.second_right.ensures)

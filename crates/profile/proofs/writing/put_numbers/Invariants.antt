@@ -1,7 +1,6 @@
 -- After i turns the first i numbers are stored.
 -- Assumes nothing.
-use Prim.Native.Nat.{◌-◌, ◌+◌, ◌*◌}
-use mathlib.Core.Path.{◌≡◌}
+use Prim.Native.Nat.{◌+◌, ◌*◌}
 use mathlib.Core.List.{[], ◌∷◌}
 use lib.ListN.{length, get_or}
 use Rattle.profile.specs.Bytes.{two_bytes}
@@ -9,7 +8,4 @@ use Rattle.profile.proofs.Stores.{StoredTo}
 use Rattle.profile.proofs.writing.put_numbers.Given as goal
 
 abbrev pub invariant-loop-i : goal.invariant-loop-i
-invariant-loop-i l = (l.to ≡ l.at + 2 * l.i) × StoredTo (λ j. two_bytes (get_or l.numbers j 0 ∷ [])) (length l.numbers) l.initial.out l.at l.i l.out l.to
-
-abbrev pub decreases-loop-i : goal.decreases-loop-i
-decreases-loop-i l = length l.numbers - l.i
+invariant-loop-i l = StoredTo (λ j. two_bytes (get_or l.numbers j 0 ∷ [])) (length l.numbers) l.initial.out l.at l.i l.out (l.at + 2 * l.i)

@@ -1,7 +1,7 @@
--- What the check leaves open, by the laws cited.
+-- Each record after the one before it.
 -- Assumes nothing.
-use Rattle.profile.proofs.Stores.{stored_none, stored_more}
 use native.Mathlib.Omega.{arith}
+use Rattle.profile.proofs.Stores.{stored_none, stored_more}
 use Rattle.profile.proofs.writing.put_registers.Goals as goal
 
 pub loop-a-init : goal.loop-a-init

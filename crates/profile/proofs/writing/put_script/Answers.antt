@@ -30,60 +30,46 @@ first_part p o e =
 pub put_registers-requires : goal.put_registers-requires
 put_registers-requires c = omega (arith, length_script c.args.profile)
 
-pub put_sequences-a-requires : goal.put_sequences-a-requires
-put_sequences-a-requires c = stored_room (first_part c.args.profile _ c.put_registers.ensures) (omega arith) (room c.args.profile _ c.requires) refl
+pub put_items-a-requires : goal.put_items-a-requires
+put_items-a-requires c =
+    (omega arith, (omega arith, stored_room (first_part c.args.profile _ c.put_registers.ensures) (omega arith) (room c.args.profile _ c.requires) refl))
 
 pub put_field-b-requires : goal.put_field-b-requires
 put_field-b-requires c =
     let p1 = first_part c.args.profile _ c.put_registers.ensures in
-    let p2 : Parts c.args.profile c.args.out.now 2 c.put_sequences-a.new.out c.put_sequences-a.result =
-    stored_more p1 (omega arith) c.put_sequences-a.ensures.out_after c.put_sequences-a.ensures.value in
+    let p2 = stored_more p1 (omega arith) c.put_items-a.ensures.out_after c.put_items-a.ensures.value in
     stored_room p2 (omega arith) (room c.args.profile _ c.requires) refl
 
-pub put_gates-c-requires : goal.put_gates-c-requires
-put_gates-c-requires c =
+pub put_items-c-requires : goal.put_items-c-requires
+put_items-c-requires c =
     let p1 = first_part c.args.profile _ c.put_registers.ensures in
-    let p2 : Parts c.args.profile c.args.out.now 2 c.put_sequences-a.new.out c.put_sequences-a.result =
-    stored_more p1 (omega arith) c.put_sequences-a.ensures.out_after c.put_sequences-a.ensures.value in
-    let p3 : Parts c.args.profile c.args.out.now 3 c.put_field-b.new.out c.put_field-b.result =
-    stored_more p2 (omega arith) c.put_field-b.ensures.out_after c.put_field-b.ensures.value in
-    stored_room p3 (omega arith) (room c.args.profile _ c.requires) refl
+    let p2 = stored_more p1 (omega arith) c.put_items-a.ensures.out_after c.put_items-a.ensures.value in
+    let p3 = stored_more p2 (omega arith) c.put_field-b.ensures.out_after c.put_field-b.ensures.value in
+    (omega arith, (omega arith, stored_room p3 (omega arith) (room c.args.profile _ c.requires) refl))
 
 pub put_subck-d-requires : goal.put_subck-d-requires
 put_subck-d-requires c =
     let p1 = first_part c.args.profile _ c.put_registers.ensures in
-    let p2 : Parts c.args.profile c.args.out.now 2 c.put_sequences-a.new.out c.put_sequences-a.result =
-    stored_more p1 (omega arith) c.put_sequences-a.ensures.out_after c.put_sequences-a.ensures.value in
-    let p3 : Parts c.args.profile c.args.out.now 3 c.put_field-b.new.out c.put_field-b.result =
-    stored_more p2 (omega arith) c.put_field-b.ensures.out_after c.put_field-b.ensures.value in
-    let p4 : Parts c.args.profile c.args.out.now 4 c.put_gates-c.new.out c.put_gates-c.result =
-    stored_more p3 (omega arith) c.put_gates-c.ensures.out_after c.put_gates-c.ensures.value in
+    let p2 = stored_more p1 (omega arith) c.put_items-a.ensures.out_after c.put_items-a.ensures.value in
+    let p3 = stored_more p2 (omega arith) c.put_field-b.ensures.out_after c.put_field-b.ensures.value in
+    let p4 = stored_more p3 (omega arith) c.put_items-c.ensures.out_after c.put_items-c.ensures.value in
     stored_room p4 (omega arith) (room c.args.profile _ c.requires) refl
 
-pub put_shutters-requires : goal.put_shutters-requires
-put_shutters-requires c =
+pub put_items-requires : goal.put_items-requires
+put_items-requires c =
     let p1 = first_part c.args.profile _ c.put_registers.ensures in
-    let p2 : Parts c.args.profile c.args.out.now 2 c.put_sequences-a.new.out c.put_sequences-a.result =
-    stored_more p1 (omega arith) c.put_sequences-a.ensures.out_after c.put_sequences-a.ensures.value in
-    let p3 : Parts c.args.profile c.args.out.now 3 c.put_field-b.new.out c.put_field-b.result =
-    stored_more p2 (omega arith) c.put_field-b.ensures.out_after c.put_field-b.ensures.value in
-    let p4 : Parts c.args.profile c.args.out.now 4 c.put_gates-c.new.out c.put_gates-c.result =
-    stored_more p3 (omega arith) c.put_gates-c.ensures.out_after c.put_gates-c.ensures.value in
-    let p5 : Parts c.args.profile c.args.out.now 5 c.put_subck-d.new.out c.put_subck-d.result =
-    stored_more p4 (omega arith) c.put_subck-d.ensures.out_after c.put_subck-d.ensures.value in
-    stored_room p5 (omega arith) (room c.args.profile _ c.requires) refl
+    let p2 = stored_more p1 (omega arith) c.put_items-a.ensures.out_after c.put_items-a.ensures.value in
+    let p3 = stored_more p2 (omega arith) c.put_field-b.ensures.out_after c.put_field-b.ensures.value in
+    let p4 = stored_more p3 (omega arith) c.put_items-c.ensures.out_after c.put_items-c.ensures.value in
+    let p5 = stored_more p4 (omega arith) c.put_subck-d.ensures.out_after c.put_subck-d.ensures.value in
+    (omega arith, (omega arith, stored_room p5 (omega arith) (room c.args.profile _ c.requires) refl))
 
 pub returns : goal.returns
 returns c =
     let p1 = first_part c.args.profile _ c.put_registers.ensures in
-    let p2 : Parts c.args.profile c.args.out.now 2 c.put_sequences-a.new.out c.put_sequences-a.result =
-    stored_more p1 (omega arith) c.put_sequences-a.ensures.out_after c.put_sequences-a.ensures.value in
-    let p3 : Parts c.args.profile c.args.out.now 3 c.put_field-b.new.out c.put_field-b.result =
-    stored_more p2 (omega arith) c.put_field-b.ensures.out_after c.put_field-b.ensures.value in
-    let p4 : Parts c.args.profile c.args.out.now 4 c.put_gates-c.new.out c.put_gates-c.result =
-    stored_more p3 (omega arith) c.put_gates-c.ensures.out_after c.put_gates-c.ensures.value in
-    let p5 : Parts c.args.profile c.args.out.now 5 c.put_subck-d.new.out c.put_subck-d.result =
-    stored_more p4 (omega arith) c.put_subck-d.ensures.out_after c.put_subck-d.ensures.value in
-    let p6 : Parts c.args.profile c.args.out.now 6 c.put_shutters.new.out c.put_shutters.result =
-    stored_more p5 (omega arith) c.put_shutters.ensures.out_after c.put_shutters.ensures.value in
+    let p2 = stored_more p1 (omega arith) c.put_items-a.ensures.out_after c.put_items-a.ensures.value in
+    let p3 = stored_more p2 (omega arith) c.put_field-b.ensures.out_after c.put_field-b.ensures.value in
+    let p4 = stored_more p3 (omega arith) c.put_items-c.ensures.out_after c.put_items-c.ensures.value in
+    let p5 = stored_more p4 (omega arith) c.put_subck-d.ensures.out_after c.put_subck-d.ensures.value in
+    let p6 = stored_more p5 (omega arith) c.put_items.ensures.out_after c.put_items.ensures.value in
     stored_all p6 (omega arith) ∙ rw all-parts (sets_front (write_script c.args.profile) c.args.out.now c.requires)

@@ -1,15 +1,9 @@
--- What the check leaves open, by the laws cited.
+-- The bytes stand in their part of the slice, and the rest is as before.
 -- Assumes nothing.
-use mathlib.Core.Path.{◌∙◌, refl}
-use Rattle.profile.proofs.Stores.{stored_none, stored_more, stored_all, all_bytes}
 use native.Mathlib.Omega.{arith}
+use Rattle.profile.proofs.Stores.{part_stored}
 use Rattle.profile.proofs.writing.store.Goals as goal
 
-pub loop-i-init : goal.loop-i-init
-loop-i-init c = stored_none (omega arith)
-
-pub loop-i-preserved : goal.loop-i-preserved
-loop-i-preserved c = stored_more c.loop-i.invariant c.loop-i-test.true refl (omega arith)
-
 pub returns : goal.returns
-returns c = stored_all c.loop-i.invariant c.loop-i-test.false ∙ rw all_bytes
+returns c = let a = c.args in
+    part_stored a.out.now a.bytes.now _ a.at _ (omega arith) c.copy_from_slice.ensures.after c.requires

@@ -1,8 +1,0 @@
--- The keys decide, from the pixels since its length.
--- Assumes nothing.
-use Rattle.level.specs.Ready.{second_at}
-use Rattle.level.proofs.second.second_at.Goals as goal
-
-pub returns : goal.returns
-unfolding second_at
-returns c = c.six.ensures
