@@ -1,9 +1,9 @@
 -- Laws of a question's parts: where a byte stands first, and a number that is cut while it is read.
 -- Assumes nothing.
-use Prim.Native.Nat.{ℕ, ◌+◌, ◌*◌, ◌-◌, ◌≤◌, ◌<◌}
+use Prim.Native.Nat.{ℕ, ◌+◌, ◌*◌, ◌-◌, ◌≤◌, ◌<◌, min}
 use native.Mathlib.Numerals.{add-one}
 use native.Mathlib.Omega.{arith}
-use mathlib.Core.Path.{◌≡◌, refl}
+use mathlib.Core.Path.{◌≡◌, refl, sym, ap, ◌∙◌}
 use mathlib.Core.List.{List, [], ◌∷◌, ◌++◌}
 use lib.Dec.{eqb}
 use lib.ListN.{length, get_or, take}
@@ -38,6 +38,14 @@ end_found c s r e h = rw (h, e, end_first) (grind (arith, nat_tests, end_first c
 
 abbrev pub cap : ℕ
 cap = 1000000000000
+
+-- a number that was cut before goes on as one that was not, and is cut in the end
+pub cut_after : (v : ℕ) (ds : List ℕ) → min (value_after (min v cap) ds) cap ≡ min (value_after v ds) cap
+unfolding value_after
+cut_after v [] = omega arith
+cut_after v (d ∷ ds) =
+    let e : min (10 * min v cap + (d - 48)) cap ≡ min (10 * v + (d - 48)) cap = omega arith in
+    sym (cut_after (10 * min v cap + (d - 48)) ds) ∙ ap (λ (n : ℕ). min (value_after n ds) cap) e ∙ cut_after (10 * v + (d - 48)) ds
 
 value_more : (v : ℕ) (ds : List ℕ) (d : ℕ) → value_after v (ds ++ (d ∷ [])) ≡ 10 * value_after v ds + (d - 48)
 unfolding value_after

@@ -5,7 +5,7 @@ ghost use Rattle.profile.specs.Values.{empty_profile, refused_toggle};
 ghost use Rattle.profile.specs.Script.{records};
 ghost use Rattle.profile.specs.Refusals.{verdict_of};
 ghost use Rattle.profile.specs.Geometry.{first_line, sequence_at, gate_of, gate_length, shutter_of};
-ghost use Rattle.ask.specs.Figures.{four_figures, figures, record_figures, run_figures, toggle_of, toggle_figures, figures_by, figures_of};
+ghost use Rattle.ask.specs.Figures.{four_figures, figures, record_figures, run_figures, toggle_of, toggle_figures, profile_figures, figures_by, figures_of};
 
 use crate::question::byte_at;
 use profile::{
@@ -196,18 +196,16 @@ fn profile_of(script: &[u8]) -> Profile
     read_records(script).unwrap_or(empty())
 }
 
-// Of a script and why it is refused. Reading names no refusal after 17; they are told as 17 is.
-#[tactic(auto, using(profile::proofs::Laws::rest_dropped), unfolding(crate::specs::Figures::figures_by, crate::specs::Figures::record_figures, crate::specs::Figures::region_figures, crate::specs::Figures::field_figures))]
-fn figures_by(script: &[u8], refusal: Refusal) -> Figures
-    ensures { result ≡ figures_by script.now (verdict_of refusal) }
+// 7 to 17, of a profile. Judging names no other refusal; those before 7 are told as 11 is, those after 17 as 17.
+#[tactic(auto, unfolding(crate::specs::Figures::region_figures, crate::specs::Figures::field_figures))]
+fn profile_figures(profile: Profile, refusal: Refusal) -> Figures
+    ensures { result ≡ profile_figures profile (verdict_of refusal) }
 {
-    let Profile { tables, field } = profile_of(script);
+    let Profile { tables, field } = profile;
     match refusal {
-        Refusal::TooLong | Refusal::NoField => Figures::default(),
-        Refusal::Cut(at) => cut_figures(&script[at.min(script.len())..]),
-        Refusal::UnknownKind(at) | Refusal::WrongLength(at) | Refusal::OutOfRange(at) => {
-            head_figures(&script[at.min(script.len())..])
-        }
+        Refusal::TooLong | Refusal::NoField => pattern_figures(tables, field, 0),
+        Refusal::Cut(i) | Refusal::UnknownKind(i) => pattern_figures(tables, field, i),
+        Refusal::WrongLength(i) | Refusal::OutOfRange(i) => pattern_figures(tables, field, i),
         Refusal::RegionStart(i) => start_figures(field, i),
         Refusal::NoSequence(i) => three(region_at(field, i).sequence, 0, 0),
         Refusal::NoPattern(i) | Refusal::Mask(i) => pattern_figures(tables, field, i),
@@ -219,6 +217,21 @@ fn figures_by(script: &[u8], refusal: Refusal) -> Figures
         Refusal::SubckPulse => subck_figures(tables),
         Refusal::ShutterSpan(i) | Refusal::NoRoom(i) => shutter_figures(tables, i),
         Refusal::NoPixel | Refusal::NoStep => shutter_figures(tables, 0),
+    }
+}
+
+// Of a script and why it is refused. Its records are read once more only where a rule over the profile is broken.
+#[tactic(auto, using(profile::proofs::Laws::rest_dropped), unfolding(crate::specs::Figures::figures_by, crate::specs::Figures::record_figures))]
+fn figures_by(script: &[u8], refusal: Refusal) -> Figures
+    ensures { result ≡ figures_by script.now (verdict_of refusal) }
+{
+    match refusal {
+        Refusal::TooLong | Refusal::NoField => Figures::default(),
+        Refusal::Cut(at) => cut_figures(&script[at.min(script.len())..]),
+        Refusal::UnknownKind(at) | Refusal::WrongLength(at) | Refusal::OutOfRange(at) => {
+            head_figures(&script[at.min(script.len())..])
+        }
+        _ => profile_figures(profile_of(script), refusal),
     }
 }
 

@@ -5,10 +5,11 @@ mod answers;
 mod figures;
 mod question;
 
-ghost use Rattle.std.specs.Prelude.{◌≡◌, length};
+ghost use Rattle.std.specs.Prelude.{◌≡◌, ◌+◌, length};
+ghost use Rattle.profile.specs.Script.{most_bytes};
 
 use crate::answers::put_answer;
-use std::io::ErrorKind;
+use std::io::{ErrorKind, Input};
 use std::process::ExitCode;
 
 // The status, as a shell tells it, of a program that the signal of a closed pipe ended.
@@ -34,14 +35,21 @@ fn print_answer(rt: &(impl Print + Eprint), input: &[u8]) -> ExitCode {
     }
 }
 
-fn main(rt: HostRuntime) -> ExitCode {
-    // A question of 123 bytes, its end, and one byte more than the longest script, so that a longer one is seen to be longer.
-    let mut input = [0; 16509];
-    match standard_input::read_all(&rt, &mut input) {
-        Ok(n) => print_answer(&rt, &input[..n]),
+// Reads into a room for a question of 123 bytes, its end, and one byte more than the longest script, so that a longer one is seen to be longer, and
+// prints the answer.
+fn answer_input(rt: &(impl Input + Print + Eprint), input: &mut [u8]) -> ExitCode
+    requires { length input.old ≡ 124 + (most_bytes + 1) }
+{
+    match standard_input::read_all(rt, input) {
+        Ok(n) => print_answer(rt, &input[..n]),
         Err(_) => {
             let _ = rt.eprintln("ask: cannot read standard input");
             ExitCode::SUCCESS
         }
     }
+}
+
+fn main(rt: HostRuntime) -> ExitCode {
+    let mut input = [0; 16509];
+    answer_input(&rt, &mut input)
 }

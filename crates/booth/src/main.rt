@@ -1,12 +1,13 @@
 // Reads a script from standard input and prints its hold list, or why it is refused.
 #![tactic(auto)]
 
-ghost use Rattle.std.specs.Prelude.{◌≡◌, ◌≤◌, length, take};
+ghost use Rattle.std.specs.Prelude.{◌≡◌, ◌+◌, ◌≤◌, length, take};
+ghost use Rattle.profile.specs.Script.{most_bytes};
 ghost use Rattle.profile.specs.Versions.{newest_rules};
 ghost use Rattle.holdlist.specs.Prints.{Prints};
 ghost use Rattle.holdlist.specs.Text.{printed};
 
-use std::io::ErrorKind;
+use std::io::{ErrorKind, Input};
 use std::process::ExitCode;
 
 // The status, as a shell tells it, of a program that the signal of a closed pipe ended.
@@ -37,14 +38,20 @@ fn print_answer(rt: &(impl Print + Eprint), script: &[u8]) -> ExitCode {
     }
 }
 
-fn main(rt: HostRuntime) -> ExitCode {
-    // One byte more than the longest script, so that a longer one is seen to be longer.
-    let mut script = [0; 16385];
-    match standard_input::read_all(&rt, &mut script) {
-        Ok(n) => print_answer(&rt, &script[..n]),
+// Reads a script into a room of one byte more than the longest, so that a longer one is seen to be longer, and prints its answer.
+fn answer_input(rt: &(impl Input + Print + Eprint), script: &mut [u8]) -> ExitCode
+    requires { length script.old ≡ most_bytes + 1 }
+{
+    match standard_input::read_all(rt, script) {
+        Ok(n) => print_answer(rt, &script[..n]),
         Err(_) => {
             let _ = rt.eprintln("booth: cannot read standard input");
             ExitCode::SUCCESS
         }
     }
+}
+
+fn main(rt: HostRuntime) -> ExitCode {
+    let mut script = [0; 16385];
+    answer_input(&rt, &mut script)
 }

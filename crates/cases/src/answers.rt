@@ -1,5 +1,5 @@
 // The answer to one case: what an entry point gives for a payload, as text.
-ghost use Rattle.std.specs.Prelude.{ℕ, ◌≡◌, ◌+◌, ◌≤◌, List, false, length, drop, unwrap_or, MatchOption};
+ghost use Rattle.std.specs.Prelude.{ℕ, ◌≡◌, ◌+◌, ◌≤◌, List, false, length, drop, is_some, unwrap_or, MatchOption};
 ghost use Rattle.profile.specs.Versions.{newest_rules};
 ghost use Rattle.profile.specs.Refusals.{verdict_in, read_told};
 ghost use Rattle.profile.specs.Rules.{check_profile};
@@ -364,7 +364,8 @@ fn put_lines(out: &mut [u8], at: usize, kind: Kind, payload: &mut [u8]) -> usize
 
 // The answer to case k, its first line and those of its kind: its length, or none where the payload is at fault.
 pub(crate) fn put_answer(out: &mut [u8], k: u64, letter: u8, payload: &mut [u8]) -> Option<usize>
-    ensures { Puts (answer_text k letter payload.old) out.old 0 (unwrap_or result 0) out.new }
+    ensures answered { is_some result ≡ is_right letter payload.old }
+    ensures text { Puts (answer_text k letter payload.old) out.old 0 (unwrap_or result 0) out.new }
 {
     let kind = kind_of(letter)?;
     if !is_right(kind, payload) {

@@ -6,6 +6,8 @@ mod chunks;
 mod raw;
 mod text;
 
+ghost use Rattle.std.specs.Prelude.{◌≡◌, length};
+
 use crate::answers::put_answer;
 use crate::raw::four_at;
 use standard_input::read_all;
@@ -58,12 +60,12 @@ fn print_answer(
     }
 }
 
-// Answers case after case until the batch ends.
-fn answer_cases(
-    rt: &(impl Input + Print),
-    room: &mut [u8],
-    text: &mut [u8],
-) -> Result<(), Trouble> {
+// Answers case after case until the batch ends. There is room for the longest payload, and for the longest answer: two lines of at most 100 bytes, and a
+// slice of 64,774 bytes in hex.
+fn answer_cases(rt: &(impl Input + Print), room: &mut [u8], text: &mut [u8]) -> Result<(), Trouble>
+    requires payload_room { length room.old ≡ 65536 }
+    requires answer_room { length text.old ≡ 131072 }
+{
     for k in 0..u64::MAX {
         let Some((letter, length)) = read_head(rt)? else {
             break;
@@ -76,7 +78,6 @@ fn answer_cases(
 }
 
 fn main(rt: HostRuntime) -> ExitCode {
-    // Room for the longest payload, and for the longest answer: two lines of at most 100 bytes, and a slice of 64,774 bytes in hex.
     let mut room = [0; 65536];
     let mut text = [0; 131072];
     match answer_cases(&rt, &mut room, &mut text) {

@@ -31,10 +31,15 @@ over_fit-length (x ∷ a) [] = refl
 over_fit-length (x ∷ a) (y ∷ s) = ap suc (over_fit-length a s)
 
 -- one element is written by a store at the front, where there is a place
-over_fit_one : (s : List ℕ) (x : ℕ) → set s 0 x ≡ over_fit (x ∷ []) s
+pub over_fit_one : (s : List ℕ) (x : ℕ) → set s 0 x ≡ over_fit (x ∷ []) s
 unfolding over_fit
 over_fit_one [] x = refl
 over_fit_one (y ∷ s) x = refl
+
+-- where there is no place
+pub over_fit-full : (a s : List ℕ) → length s ≤ 0 → s ≡ over_fit a s
+over_fit-full a [] h = sym (over_fit_nil a)
+over_fit-full a (y ∷ s) h = absurd (omega arith)
 
 -- where all of it has a place
 pub over_fit-fits : (a s : List ℕ) → length a ≤ length s → over_fit a s ≡ over a s

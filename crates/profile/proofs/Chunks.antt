@@ -340,6 +340,11 @@ pub fed : (u : Upload) (c : List ℕ) {held before total : ℕ} {r : Option Refu
 fed u c {r = r} h b t e s =
     record { stands = stands u h b; comes = t; told = s ∙ held_told u.arrival r e }
 
+-- the same where the state itself is asked whether a refusal is held
+pub fed_on : (u : Upload) (c : List ℕ) {held before total : ℕ} → held ≡ length (held_bytes u.arrival) → before ≡ max u.arrival.length held
+    → total ≡ counted (before + length c) → Fed u c held before total (is_refused u.arrival.number)
+fed_on u c h b t = record { stands = stands u h b; comes = t; told = refl }
+
 module _ {u : Upload} {c : List ℕ} {held before total : ℕ} {refuses : Bool} (k : Fed u c held before total refuses) where
   abbrev at : Arrival
   at = u.arrival
@@ -349,6 +354,9 @@ module _ {u : Upload} {c : List ℕ} {held before total : ℕ} {refuses : Bool} 
 
   total_is : total ≡ counted all
   total_is = rw (sym (stands_arrived k.stands)) at k.comes
+
+  pub test_is : ltb most_bytes (counted all) || is_refused at.number ≡ ltb most_bytes total || refuses
+  test_is = rw (total_is, k.told) refl
 
   -- the test in code, and the definition's
   tested : (b : Bool) → ltb most_bytes total || refuses ≡ b → leb all most_bytes && not (is_refused at.number) ≡ not b
@@ -372,11 +380,15 @@ module _ {u : Upload} {c : List ℕ} {held before total : ℕ} {refuses : Bool} 
         chunk_read u c (tested false o)
         ∙ ap (λ (n : ℕ). read_on n at.bytes (reached 0 (held_bytes at ++ c) u.profile)) (sym total-all)
 
+    pub front-filled : {f : Filled} → f ≡ filled_answer at.bytes (filled (held_bytes at) c)
+        → f ≡ filled_answer at.bytes (filled (take held at.bytes) (drop 0 c))
+    front-filled e = rw (k.stands.holds, held-front at) e
+
     module _ {f : Filled} (ef : f ≡ filled_answer at.bytes (filled (take held at.bytes) (drop 0 c))) where
       abbrev front : List ℕ
       front = filled (held_bytes at) c
 
-      front-is : f ≡ filled_answer at.bytes front
+      pub front-is : f ≡ filled_answer at.bytes front
       front-is = rw (k.stands.holds, held-front at) at ef
 
       pub take-waits : f.cut ≡ true → upload (filled_arrival total f) u.profile ≡ take_chunk u c

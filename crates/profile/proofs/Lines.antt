@@ -94,6 +94,15 @@ module _ (t : Tables) (f : Field) (i : ℕ) where
   pub origin_product : (line : ℕ) → line < f.lines → region_pixels t f i line ≡ (line - first_line f i) * (sequence_at t f i).length
   origin_product line h = pixels_inner line (λ k l u q. omega arith)
 
+-- no line lies before the first
+pub product_none : (first lines last length line : ℕ) → line ≤ first → 0 ≡ product_pixels first lines last length line
+unfolding product_pixels
+product_none first lines last length line h =
+    let z : line - first ≡ 0 = omega arith in
+    by_cases (ltb first lines)
+    (λ a. let l = ltb-true first lines a in rw (a, lt-leb lines line (omega arith), z) (sym (zero-mul length)))
+    (λ a. rw (a, z) (sym (zero-mul length)))
+
 -- ---- the pixels before a line, and the places that there are
 
 module _ (t : Tables) (f : Field) where

@@ -1,10 +1,13 @@
 // Reading a script that arrives in chunks of any length. The state goes in and comes back by value, and is of one size whatever has arrived:
 // it holds the bytes of the record that is not whole yet, and the profile of those before it. A chunk takes time by its own length.
-ghost use Rattle.std.specs.Prelude.{◌≡◌, true, ◌+◌, ◌≤◌, length, take as front, drop};
+ghost use Rattle.std.specs.Prelude.{◌≡◌, true, false, ◌||◌, ◌+◌, ◌≤◌, ltb, length, take as front, drop};
+ghost use Rattle.profile.specs.Script.{most_bytes};
 ghost use Rattle.profile.specs.Versions.{newest_rules};
 ghost use Rattle.profile.specs.Refusals.{read_told};
 ghost use Rattle.profile.specs.Upload.{
   held_bytes,
+  arrived,
+  is_refused,
   refused_at,
   waits,
   stopped_at,
@@ -172,6 +175,33 @@ fn stopped(total: usize, bytes: [u8; 58], fault: Option<Fault>, chunk: &[u8], at
     }
 }
 
+// The state with a chunk more that has the rest of the record that is held: that record, and then those after it in the chunk.
+// By itself, so that a chunk that only adds to what is held makes no room for the profiles here.
+fn take_whole(upload: Upload, first: Filled, chunk: &[u8]) -> Upload
+    requires few { ltb most_bytes (counted (arrived upload.arrival + length chunk.now)) || is_refused upload.arrival.number ≡ false }
+    requires filled { first ≡ filled_answer upload.arrival.bytes (filledWith (held_bytes upload.arrival) chunk.now) }
+    requires whole { first.cut ≡ false }
+    ensures { result ≡ take_chunk upload chunk.now }
+{
+    let arrival = upload.arrival;
+    let bytes = arrival.bytes;
+    let held = arrival.held_of();
+    let before = arrival.length.max(held);
+    let total = count_on(before, chunk.len());
+    let record = records_from(&first.bytes[..first.held], 0, upload.profile);
+    if let Some(fault) = record.fault {
+        return Upload {
+            arrival: refused(total, fault, before - held, bytes),
+            profile: upload.profile,
+        };
+    }
+    let rest = records_from(chunk, first.held - held, record.profile);
+    Upload {
+        arrival: stopped(total, bytes, rest.fault, chunk, rest.at),
+        profile: rest.profile,
+    }
+}
+
 // The state with a chunk more. After a refusal, and past the limit, bytes are only counted.
 pub fn take(upload: Upload, chunk: &[u8]) -> Upload
     ensures { result ≡ take_chunk upload chunk.now }
@@ -191,16 +221,7 @@ pub fn take(upload: Upload, chunk: &[u8]) -> Upload
         after.arrival = waiting(total, first);
         return after;
     }
-    let record = records_from(&first.bytes[..first.held], 0, upload.profile);
-    if let Some(fault) = record.fault {
-        after.arrival = refused(total, fault, before - held, bytes);
-        return after;
-    }
-    let rest = records_from(chunk, first.held - held, record.profile);
-    Upload {
-        arrival: stopped(total, bytes, rest.fault, chunk, rest.at),
-        profile: rest.profile,
-    }
+    take_whole(upload, first, chunk)
 }
 
 // ---- the answer

@@ -9,11 +9,11 @@ pub loop-n-init : goal.loop-n-init
 loop-n-init c = search seeking_start
 
 pub returns-then-q-l : goal.returns-then-q-l
-returns-then-q-l c = seeking-found c.loop-n.invariant c.loop-n-test.true c.line_of-l.ensures c.change_from-q.ensures refl
+returns-then-q-l c = seeking-found c.loop-n.invariant (omega (arith, c.loop-n-test.true, c.requires.line_lt_lines)) c.line_of-l.ensures c.change_from-q.ensures refl
     c.if-q-l.true
 
 pub loop-n-preserved : goal.loop-n-preserved
-loop-n-preserved c = seeking-more c.loop-n.invariant c.loop-n-test.true c.line_of-l.ensures c.change_from-q.ensures (omega arith)
+loop-n-preserved c = seeking-more c.loop-n.invariant (omega (arith, c.loop-n-test.true, c.requires.line_lt_lines)) c.line_of-l.ensures c.change_from-q.ensures (omega arith)
 
 pub returns : goal.returns
 returns c = seeking_none c.loop-n.invariant refl (omega arith)
