@@ -4,11 +4,12 @@ ghost use Rattle.std.specs.Prelude.{◌≤◌, length};
 use holdlist::ListSize;
 use profile::{Profile, Refusal};
 
+// One of the two engines. By a pointer, and not by a type parameter: printing a list stands once in the program, and its rooms not in `main`.
+type Compile = fn(Profile, &mut [u32], &mut [u16]) -> Result<ListSize, Refusal>;
+
 // A profile's list by an engine, as text; room for 4,096 steps. An engine is handed on through three functions, and each asks that it can be called.
-fn put_list<F>(compile: F, profile: Profile, out: &mut [u8]) -> usize
-where
-    F: FnOnce(Profile, &mut [u32], &mut [u16]) -> Result<ListSize, Refusal>,
-    requires { F.IsAlwaysCallable compile }
+fn put_list(compile: Compile, profile: Profile, out: &mut [u8]) -> usize
+    requires { IsAlwaysCallable compile }
     ensures { result ≤ length out.new }
 {
     let mut counts = [0; 4096];
@@ -18,10 +19,8 @@ where
 }
 
 // The list of a script, or its refusal.
-fn put_answer<F>(compile: F, script: &[u8], out: &mut [u8]) -> usize
-where
-    F: FnOnce(Profile, &mut [u32], &mut [u16]) -> Result<ListSize, Refusal>,
-    requires { F.IsAlwaysCallable compile }
+fn put_answer(compile: Compile, script: &[u8], out: &mut [u8]) -> usize
+    requires { IsAlwaysCallable compile }
     ensures { result ≤ length out.new }
 {
     match profile::read(script) {
@@ -30,10 +29,8 @@ where
     }
 }
 
-pub(crate) fn print_list<F>(rt: &impl Print, compile: F, script: &[u8])
-where
-    F: FnOnce(Profile, &mut [u32], &mut [u16]) -> Result<ListSize, Refusal>,
-    requires { F.IsAlwaysCallable compile }
+pub(crate) fn print_list(rt: &impl Print, compile: Compile, script: &[u8])
+    requires { IsAlwaysCallable compile }
 {
     let mut text = [0; 65600];
     let n = put_answer(compile, script, &mut text);

@@ -151,12 +151,8 @@ fn answer(rt: &impl Print, text: &[u8]) {
         return;
     };
     match *first {
-        b'P' => lists::print_list(rt, |p, counts, words| compile(p, counts, words), script),
-        b'E' => lists::print_list(
-            rt,
-            |p, counts, words| compile_edges(p, counts, words),
-            script,
-        ),
+        b'P' => lists::print_list(rt, compile, script),
+        b'E' => lists::print_list(rt, compile_edges, script),
         b'N' => print_sum(rt, places::places_sum(script)),
         b'L' => print_sum(rt, places::levels_sum(script)),
         b'C' => print_sum(rt, places::checks_sum(script)),
