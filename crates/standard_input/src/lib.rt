@@ -5,8 +5,8 @@ ghost use Rattle.std.specs.Prelude.{◌≤◌, length, IfOk};
 
 use std::io::{ErrorKind, Input, Read};
 
-// Reads until the input ends or the room is full, and gives how many bytes came. A read that fails is not an end: its kind is given, for an answer
-// is copied, and an `io::Error` is not.
+// Reads until the input ends or the room is full, and gives how many bytes came. A read that fails is not an end: its kind is given, and
+// `map_err(io::Error::from)` makes an error of it.
 pub fn read_all(rt: &impl Input, room: &mut [u8]) -> Result<usize, ErrorKind>
     ensures { IfOk result (λ n. n ≤ length room.old) }
 {
